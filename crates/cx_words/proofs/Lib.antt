@@ -1,0 +1,3 @@
+mod ParseLemmas
+mod Digits
+mod Spelled

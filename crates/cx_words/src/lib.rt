@@ -1,0 +1,15 @@
+//! The words of the command line. `read_words` tells which command they ask for, and with which numbers.
+//!
+//! A number is spelled in decimal without leading zeros, or as `0x` and one to sixteen hexadecimal digits of either
+//! case. Whatever isn't a command of the program is none: nothing is guessed, and no word is read by half. Reading
+//! takes no memory.
+#![tactic(auto)]
+
+mod command;
+mod number;
+mod spelling;
+#[cfg(test)]
+mod tests;
+
+pub use command::{Command, read_words};
+pub use spelling::numbers_read_back;
