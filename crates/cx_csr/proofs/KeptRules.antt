@@ -1,0 +1,84 @@
+-- Each write leaves the rules of the control registers as they were.
+use Rattle.std.proofs.Common.{◌≡◌, ◌≢◌, ℕ, ◌+◌, ◌*◌, ◌/◌, ◌%◌, ◌^◌, ◌<◌, Bool, true, false, eqb, cond, Option, None, Some, bit_and, refl, arith}
+use Rattle.std.proofs.lemmas.Nat.{and_assoc, and_le_l}
+use Rattle.std.proofs.lemmas.Bool.{eqb-false}
+use Rattle.std.proofs.lemmas.Grind.{and_high_numeral}
+use Rattle.cx_csr.specs.declared.state.State.{State}
+use Rattle.cx_csr.specs.declared.state.CsrFile.{CsrFile}
+use Rattle.cx_csr.specs.declared.register.Register.{Register}
+use Rattle.cx_csr.specs.declared.register.Register.TheVariants.{Sstatus, Sie, Stvec, Scounteren, Sscratch, Sepc, Scause, Stval, Sip, Satp, Mstatus, Misa, Medeleg, Mideleg, Mie, Mtvec, Mcounteren, Mscratch, Mepc, Mcause, Mtval, Mip, Mcycle, Mcycleh, Minstret, Minstreth, Cycle, Cycleh, Time, Timeh, Instret, Instreth, NoEffect}
+use Rattle.cx_csr.specs.Access.{written_at}
+use Rattle.cx_csr.specs.Bits.{with_bits}
+use Rattle.cx_csr.specs.Keeps.{Keeps, KeepsCsr}
+use Rattle.cx_csr.specs.Rules.{IsAligned, IsStatus, IsWithin}
+use Rattle.cx_csr.specs.Values.{written}
+use Rattle.cx_csr.proofs.Masks.{within_at, within_from_bits, within-and, within-with_bits, and-with_bits_apart}
+
+-- mstatus with other fields, but the same MPP
+pub status-with_bits : (mask value old : ℕ) → IsWithin 0x7e19aa mask → mask < 2 ^ 32 → bit_and mask 0x1800 ≡ 0 → IsStatus old → IsStatus (with_bits mask value old)
+status-with_bits mask value old within small apart status = record {
+  within = within-with_bits 0x7e19aa mask value old within status.within;
+  previous = rw (and-with_bits_apart 0x1800 mask value old small (omega arith) apart) status.previous;
+}
+
+status-from_test : (value old : ℕ) (test : Bool) → (test ≡ false → bit_and value 0x1800 ≢ 0x1000) → IsStatus old → IsStatus (cond test (with_bits 0x7e01aa value old) (bit_and value 0x7e19aa))
+status-from_test value old true other status = status-with_bits 0x7e01aa value old refl (omega arith) refl status
+status-from_test value old false other status = record {
+  within = within-and value 0x7e19aa;
+  previous = rw and_assoc (other refl);
+}
+
+aligned-and : (value : ℕ) → value < 2 ^ 32 → IsAligned (bit_and value 0xfffffffc)
+aligned-and value h = let parts = and_high_numeral value 0xfffffffb refl h in record {
+  wide = omega (arith, and_le_l value 0xfffffffc);
+  multiple = omega arith;
+}
+
+within-within : (part all word : ℕ) → IsWithin all part → IsWithin part word → IsWithin all word
+within-within part all word h within =
+    within_from_bits all word (λ i. let below = within_at part word i within in let above = within_at all part i h in omega arith)
+
+low_fits : (v n : ℕ) → v < 2 ^ 32 → n < 2 ^ 64 → v + n / 2 ^ 32 * 2 ^ 32 < 2 ^ 64
+low_fits v n h i = omega arith
+
+high_fits : (v n : ℕ) → v < 2 ^ 32 → n % 2 ^ 32 + v * 2 ^ 32 < 2 ^ 64
+high_fits v n h = omega arith
+
+pub csr-written : (r : Register) (v : ℕ) (c : CsrFile) → v < 2 ^ 32 → KeepsCsr c → KeepsCsr (written r v c)
+csr-written Sstatus v c h k = assumption (status-with_bits 0xc0122 v c.mstatus refl (omega arith) refl k.mstatus)
+csr-written Sie v c h k = assumption (within-with_bits 0xaaa c.mideleg v c.mie (within-within 0x222 0xaaa c.mideleg refl k.mideleg) k.mie)
+csr-written Stvec v c h k = assumption (within-and v 0xfffffffd)
+csr-written Scounteren v c h k = assumption (within-and v 7)
+csr-written Sscratch v c h k = assumption (h)
+csr-written Sepc v c h k = assumption (aligned-and v h)
+csr-written Scause v c h k = assumption (h)
+csr-written Stval v c h k = assumption (h)
+csr-written Sip v c h k = assumption (within-with_bits 0x222 (bit_and c.mideleg 2) v c.mip (within-within 2 0x222 (bit_and c.mideleg 2) refl (within-and c.mideleg 2)) k.mip)
+csr-written Satp v c h k = assumption (h)
+csr-written Mstatus v c h k = assumption (status-from_test v c.mstatus (eqb (bit_and v 0x1800) 0x1000) (eqb-false (bit_and v 0x1800) 0x1000) k.mstatus)
+csr-written Misa v c h k = k
+csr-written Medeleg v c h k = assumption (within-and v 0xb3ff)
+csr-written Mideleg v c h k = assumption (within-and v 0x222)
+csr-written Mie v c h k = assumption (within-and v 0xaaa)
+csr-written Mtvec v c h k = assumption (within-and v 0xfffffffd)
+csr-written Mcounteren v c h k = assumption (within-and v 7)
+csr-written Mscratch v c h k = assumption (h)
+csr-written Mepc v c h k = assumption (aligned-and v h)
+csr-written Mcause v c h k = assumption (h)
+csr-written Mtval v c h k = assumption (h)
+csr-written Mip v c h k = assumption (within-and v 0x222)
+csr-written Mcycle v c h k = assumption (low_fits v c.mcycle h k.mcycle)
+csr-written Mcycleh v c h k = assumption (high_fits v c.mcycle h)
+csr-written Minstret v c h k = assumption (low_fits v c.minstret h k.minstret)
+csr-written Minstreth v c h k = assumption (high_fits v c.minstret h)
+csr-written Cycle v c h k = k
+csr-written Cycleh v c h k = k
+csr-written Time v c h k = k
+csr-written Timeh v c h k = k
+csr-written Instret v c h k = k
+csr-written Instreth v c h k = k
+csr-written NoEffect v c h k = k
+
+pub keeps-written_at : (pages : ℕ) (r : Option Register) (v : ℕ) (s : State) → v < 2 ^ 32 → Keeps pages s → Keeps pages (written_at r v s)
+keeps-written_at pages None v s h k = k
+keeps-written_at pages (Some r) v s h k = record { pc = k.pc; registers = k.registers; zero_register = k.zero_register; wide = k.wide; mode = k.mode; csr = csr-written r v s.csr h k.csr; reservation = k.reservation; lines = k.lines }

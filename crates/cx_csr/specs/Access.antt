@@ -1,0 +1,67 @@
+-- Which accesses to control and status registers are legal, and what a legal one does.
+use Rattle.std.specs.Prelude.{ℕ, ◌/◌, ◌%◌, ◌^◌, ◌<◌, Bool, false, not, ◌==◌, ◌&&◌, ◌||◌, nat_lt, if◌then◌else◌, is_none, Option, None, Some}
+use Rattle.cx_csr.specs.declared.state.State.{State}
+use Rattle.cx_csr.specs.declared.access.Csr.{Csr}
+use Rattle.cx_csr.specs.declared.access.Csr.TheVariants.{Value, Illegal}
+use Rattle.cx_csr.specs.declared.access.Csr.TheVariants as answers
+use Rattle.cx_csr.specs.declared.register.Register.{Register}
+use Rattle.cx_csr.specs.Bits.{is_set, with_bits}
+use Rattle.cx_csr.specs.Table.{register_at, is_from}
+use Rattle.cx_csr.specs.Values.{read_as, written}
+
+-- Bits 9:8 of a number are the least mode that may use it, and bits 11:10 are 3 where it is read only (section 2.1).
+abbrev pub is_above : State → ℕ → Bool
+is_above s number = nat_lt s.mode (number / 2 ^ 8 % 4)
+
+abbrev pub is_read_only : ℕ → Bool
+is_read_only number = number / 2 ^ 10 % 4 == 3
+
+-- satp in supervisor mode, where TVM is set (section 3.1.6.5)
+abbrev pub is_trapped : State → ℕ → Bool
+is_trapped s number = number == 0x180 && s.mode == 1 && is_set s.csr.mstatus 20
+
+-- The counters of user mode, cycle, time, instret and hpmcounter3 to 31, and their high halves.
+abbrev pub is_counter : ℕ → Bool
+is_counter number = is_from 0xc00 0xc1f number || is_from 0xc80 0xc9f number
+
+-- a counter below machine mode whose bit of mcounteren is 0 (section 3.1.11)
+abbrev pub is_closed : State → ℕ → Bool
+is_closed s number = is_counter number && nat_lt s.mode 3 && not (is_set s.csr.mcounteren (number % 32))
+
+-- a counter in user mode whose bit of scounteren is 0 (section 4.1.5)
+abbrev pub is_closed_to_user : State → ℕ → Bool
+is_closed_to_user s number = is_counter number && s.mode == 0 && not (is_set s.csr.scounteren (number % 32))
+
+-- An access is illegal for one of six reasons; the first flag says whether it writes.
+unfoldable pub is_illegal : Bool → State → ℕ → Bool
+is_illegal writes s number =
+    is_none (register_at number)
+    || is_above s number
+    || (writes && is_read_only number)
+    || is_trapped s number
+    || is_closed s number
+    || is_closed_to_user s number
+
+-- what the register of the number reads as
+abbrev pub value_at : Option Register → State → Csr
+value_at None s = Illegal
+value_at (Some register) s = read_as register s
+
+-- the answer, where it is a value, has 32 bits
+abbrev pub IsWordAnswer : Csr → Type 0
+IsWordAnswer (Value v) = v < 2 ^ 32
+IsWordAnswer (answers.Time high) = Unit {0}
+IsWordAnswer Illegal = Unit {0}
+
+unfoldable pub csr_read : State → ℕ → Csr
+csr_read s number = if is_illegal false s number then Illegal else value_at (register_at number) s
+
+-- the state after a write to the register of the number
+abbrev pub written_at : Option Register → ℕ → State → State
+written_at None value s = s
+written_at (Some register) value s = record s { csr = written register value s.csr }
+
+-- The value that CSRRS, CSRRC and their immediate forms set and clear bits in, where the register reads as the value
+-- given: bit 9 of mip is then the software bit alone (section 3.1.9).
+abbrev pub modify_base : State → ℕ → ℕ → ℕ
+modify_base s number value = if number == 0x344 then with_bits 0x200 s.csr.mip value else value
