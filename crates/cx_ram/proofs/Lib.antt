@@ -1,0 +1,4 @@
+pub mod Loads
+pub mod LoadsAndWrites
+pub mod Pages
+pub mod Writes

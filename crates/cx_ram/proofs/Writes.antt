@@ -1,0 +1,35 @@
+-- What the code's ways to write make of a list.
+use Rattle.std.proofs.Common.{◌≡◌, ℕ, zero, suc, ◌+◌, ◌-◌, ◌/◌, List, ◌++◌, length, take, drop, refl, ap, arith}
+use Rattle.std.specs.Int.{w32, to_le_bytes}
+use Rattle.std.proofs.lemmas.List.{drop-drop}
+use Rattle.std.proofs.Math.Nat.{div-div-eq-div-mul}
+use Rattle.cx_ram.specs.LittleEndian.{written, low_bytes, stored}
+
+pub length-low_bytes : (len value : ℕ) → length (low_bytes len value) ≡ len
+unfolding low_bytes
+length-low_bytes zero value = refl
+length-low_bytes (suc len) value = ap suc (length-low_bytes len (value / 256))
+
+-- The bytes of a list from one index to another, replaced.
+pub written_between : (memory bytes : List ℕ) (at to : ℕ) → to ≡ at + length bytes
+    → take at memory ++ (bytes ++ drop (to - at) (drop at memory)) ≡ written memory at bytes
+unfolding written
+written_between memory bytes at to e =
+    let len : to - at ≡ length bytes = omega arith in
+    rw (len, drop-drop (length bytes) at memory) refl
+
+low_bytes-four : (value : ℕ) → low_bytes 4 value ≡ to_le_bytes w32 value
+unfolding low_bytes
+low_bytes-four value = simp div-div-eq-div-mul
+
+pub stored_one : (memory bytes : List ℕ) (at value : ℕ) → bytes ≡ to_le_bytes w32 value → written memory at (take 1 bytes) ≡ stored memory at 1 value
+unfolding stored low_bytes
+stored_one memory bytes at value e = rw e refl
+
+pub stored_two : (memory bytes : List ℕ) (at value : ℕ) → bytes ≡ to_le_bytes w32 value → written memory at (take 2 bytes) ≡ stored memory at 2 value
+unfolding stored low_bytes
+stored_two memory bytes at value e = rw e refl
+
+pub stored_four : (memory bytes : List ℕ) (at value : ℕ) → bytes ≡ to_le_bytes w32 value → written memory at bytes ≡ stored memory at 4 value
+unfolding stored
+stored_four memory bytes at value e = rw (e, ← low_bytes-four value) refl

@@ -1,0 +1,17 @@
+//! The physical memory of the machine: its RAM from place 0x8000_0000 on, as bytes.
+//!
+//! Contracts see one flat list of bytes. Loads and stores of 1, 2 and 4 bytes are little-endian and stay inside a page;
+//! bytes of a device go in at any place; whole pages come and go for those who read and write recordings.
+#![tactic(auto)]
+
+mod laws;
+mod little_endian;
+mod ram;
+#[cfg(test)]
+mod tests;
+
+pub use laws::{
+    load_after_store, load_after_write, load_fits, load_reads_its_bytes, page_after_write,
+    page_is_its_bytes, store_changes_its_bytes, write_changes_its_bytes,
+};
+pub use ram::{NoMemory, Ram};

@@ -1,0 +1,52 @@
+//! Numbers and bytes in a slice of bytes. The byte at the lowest index is the least significant one.
+
+ghost use Rattle.std.specs.Prelude.{◌≡◌, ◌↔◌, ℕ, ◌+◌, ◌*◌, ◌^◌, ◌<◌, ◌≤◌, length, All, IsTrue};
+ghost use Rattle.cx_ram.specs.LittleEndian.{loaded, stored, written};
+ghost use Rattle.cx_ram.specs.PhysicalMemory.{IsAccessLength};
+
+/// The value of the 1, 2 or 4 bytes from index `at` on.
+#[inline(always)]
+#[tactic(auto, using(crate::proofs::Loads::loaded_one, crate::proofs::Loads::loaded_two, crate::proofs::Loads::loaded_four))]
+pub fn load(memory: &[u8], at: usize, len: u8) -> u32
+    requires within { at + len ≤ length memory.now }
+    requires length { IsAccessLength len }
+    ensures value { result ≡ loaded memory.now at len }
+    ensures fits { result < 2 ^ (8 * len) }
+{
+    match len {
+        1 => u32::from(memory[at]),
+        2 => u32::from(u16::from_le_bytes([memory[at], memory[at + 1]])),
+        _ => u32::from_le_bytes([memory[at], memory[at + 1], memory[at + 2], memory[at + 3]]),
+    }
+}
+
+/// Puts bytes in the place of those from index `at` on.
+#[inline(always)]
+pub fn write(memory: &mut [u8], at: usize, bytes: &[u8])
+    requires { at + length bytes.now ≤ length memory.old }
+    ensures { memory.new ≡ written memory.old at bytes.now }
+{
+    memory[at..at + bytes.len()].copy_from_slice(bytes);
+}
+
+/// Puts the 1, 2 or 4 low bytes of a value in the place of those from index `at` on.
+#[inline(always)]
+pub fn store(memory: &mut [u8], at: usize, len: u8, value: u32)
+    requires within { at + len ≤ length memory.old }
+    requires length { IsAccessLength len }
+    ensures { memory.new ≡ stored memory.old at len value }
+{
+    let bytes = value.to_le_bytes();
+    match len {
+        1 => write(memory, at, &bytes[..1]),
+        2 => write(memory, at, &bytes[..2]),
+        _ => write(memory, at, &bytes),
+    }
+}
+
+/// Whether all bytes are zero.
+pub fn is_all_zero(bytes: &[u8]) -> bool
+    ensures { IsTrue result ↔ All (λ b. b ≡ 0) bytes.now }
+{
+    bytes.iter().all(|b| *b == 0)
+}
