@@ -1,0 +1,4 @@
+pub mod Encoding
+pub mod Operands
+pub mod Table
+pub mod WellFormed

@@ -1,0 +1,118 @@
+//! From a word to its instruction.
+#![tactic(auto, using(crate::proofs::Masks::masks, std::proofs::lemmas::Grind::common_steps))]
+
+ghost use Rattle.std.specs.Prelude.{◌≡◌, ◌/◌, ◌%◌, ◌^◌, IfSome, IfNone, Some};
+ghost use Rattle.cx_decode.specs.Operands.{IsWordOf, ins_of};
+ghost use Rattle.cx_decode.specs.Table.{Matches, MatchesNone};
+ghost use Rattle.cx_decode.specs.WellFormed.{WellFormed};
+ghost use Rattle.cx_decode.specs.declared.op.Op.{Op};
+
+use crate::ins::Ins;
+use crate::op::Op;
+use crate::{operands, rows};
+
+/// The instruction of a word with the major opcode OP-IMM.
+fn computation(word: u32) -> Option<Ins>
+    requires { word % 2 ^ 7 ≡ 0x13 }
+    ensures found { IfSome result (IsWordOf word) }
+    ensures none { IfNone result (MatchesNone word) }
+{
+    match rows::minor(word) {
+        0 => Some(operands::immediate(Op::Addi, word)),
+        2 => Some(operands::immediate(Op::Slti, word)),
+        3 => Some(operands::immediate(Op::Sltiu, word)),
+        4 => Some(operands::immediate(Op::Xori, word)),
+        6 => Some(operands::immediate(Op::Ori, word)),
+        7 => Some(operands::immediate(Op::Andi, word)),
+        1 if word >> 25 == 0 => Some(operands::shift(Op::Slli, word)),
+        5 if word >> 25 == 0 => Some(operands::shift(Op::Srli, word)),
+        5 if word >> 25 == 0x20 => Some(operands::shift(Op::Srai, word)),
+        _ => None,
+    }
+}
+
+/// The instruction of a word with the major opcode AMO.
+fn atomic(word: u32) -> Option<Ins>
+    requires { word % 2 ^ 7 ≡ 0x2f }
+    ensures found { IfSome result (IsWordOf word) }
+    ensures none { IfNone result (MatchesNone word) }
+{
+    if rows::minor(word) != 2 {
+        None
+    } else if word >> 27 != 2 {
+        Some(operands::atomic(rows::atomic_op(word)?, word))
+    } else if (word >> 20) & 31 == 0 {
+        Some(operands::reserve(Op::LrW, word))
+    } else {
+        None
+    }
+}
+
+/// The instruction of a word with the major opcode SYSTEM and the minor bits 0.
+fn privileged(word: u32) -> Option<Ins>
+    requires major { word % 2 ^ 7 ≡ 0x73 }
+    requires minor { word / 2 ^ 12 % 2 ^ 3 ≡ 0 }
+    ensures found { IfSome result (IsWordOf word) }
+    ensures none { IfNone result (MatchesNone word) }
+{
+    match word {
+        0x0000_0073 => Some(operands::plain(Op::Ecall)),
+        0x0010_0073 => Some(operands::plain(Op::Ebreak)),
+        0x1020_0073 => Some(operands::plain(Op::Sret)),
+        0x3020_0073 => Some(operands::plain(Op::Mret)),
+        0x1050_0073 => Some(operands::plain(Op::Wfi)),
+        _ if word & 0xfe00_7fff == 0x1200_0073 => Some(operands::translation(Op::SfenceVma, word)),
+        _ => None,
+    }
+}
+
+/// The instruction of a word with the major opcode SYSTEM.
+fn system(word: u32) -> Option<Ins>
+    requires { word % 2 ^ 7 ≡ 0x73 }
+    ensures found { IfSome result (IsWordOf word) }
+    ensures none { IfNone result (MatchesNone word) }
+{
+    match rows::minor(word) {
+        0 => privileged(word),
+        1 => Some(operands::control(Op::Csrrw, word)),
+        2 => Some(operands::control(Op::Csrrs, word)),
+        3 => Some(operands::control(Op::Csrrc, word)),
+        5 => Some(operands::control_immediate(Op::Csrrwi, word)),
+        6 => Some(operands::control_immediate(Op::Csrrsi, word)),
+        7 => Some(operands::control_immediate(Op::Csrrci, word)),
+        _ => None,
+    }
+}
+
+/// The instruction of a word, by its major opcode.
+fn find(word: u32) -> Option<Ins>
+    ensures found { IfSome result (IsWordOf word) }
+    ensures none { IfNone result (MatchesNone word) }
+{
+    match word & 0x7f {
+        0x03 => Some(operands::immediate(rows::load_op(word)?, word)),
+        0x0f => Some(operands::fence(rows::fence_op(word)?, word)),
+        0x13 => computation(word),
+        0x17 => Some(operands::upper(Op::Auipc, word)),
+        0x23 => Some(operands::store(rows::store_op(word)?, word)),
+        0x2f => atomic(word),
+        0x33 => Some(operands::register(rows::register_op(word)?, word)),
+        0x37 => Some(operands::upper(Op::Lui, word)),
+        0x63 => Some(operands::branch(rows::branch_op(word)?, word)),
+        0x67 => Some(operands::immediate(rows::jump_register_op(word)?, word)),
+        0x6f => Some(operands::jump(Op::Jal, word)),
+        0x73 => system(word),
+        _ => None,
+    }
+}
+
+/// The instruction that a word spells, or None where no row of the table matches it.
+#[tactic(auto, using(crate::proofs::Table::found_of_row))]
+pub fn decode(word: u32) -> Option<Ins>
+    ensures found { IfSome result (IsWordOf word) }
+    ensures formed { IfSome result WellFormed }
+    ensures none { IfNone result (MatchesNone word) }
+    ensures only { (op : Op) → Matches word op → result ≡ Some (ins_of op word) }
+{
+    find(word)
+}
