@@ -1,0 +1,15 @@
+pub mod Runs
+pub mod BuiltSteps
+pub mod PagesRead
+pub mod Frames
+pub mod Received
+pub mod KeptPages
+pub mod KeptText
+pub mod Events
+pub mod Dues
+pub mod StandingLines
+pub mod Windows
+pub mod WindowOrder
+pub mod Accepted
+pub mod WindowOfWindow
+pub mod Alone

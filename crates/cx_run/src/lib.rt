@@ -1,0 +1,15 @@
+//! The run of a recording, and its windows: definitions, and the laws that hold of them.
+//!
+//! A step function takes a machine and what is due to it, and gives the machine after the step with a record of it, or
+//! nothing where the step can't be carried out so. All of this holds over any step function; where a law asks something
+//! of it, as that it reads nothing but what its records name, the law says so.
+#![tactic(auto)]
+
+mod laws;
+
+pub use laws::{
+    kept_pages_are_those_of_the_memory, kept_pages_are_written_one_by_one,
+    pages_are_marked_step_by_step, run_stops_at_its_first_gap, runs_begin_with_shorter_runs,
+    transfers_write_the_same_bytes, window_is_accepted, window_is_there_once, window_of_window,
+    window_runs_alone,
+};
