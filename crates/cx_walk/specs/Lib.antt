@@ -1,0 +1,7 @@
+pub mod Agreement
+pub mod Bytes
+pub mod Devices
+pub mod Entry
+pub mod Kinds
+pub mod Mode
+pub mod Walks

@@ -1,0 +1,29 @@
+//! Whether an access is translated, and with which privilege.
+
+ghost use Rattle.std.specs.Prelude.{◌≡◌};
+ghost use Rattle.cx_walk.specs.Mode.{effective_mode, is_bare};
+
+use crate::kind::Kind;
+use cx_csr::{State, is_bit_set};
+
+/// Machine mode, which isn't translated.
+const MACHINE: u8 = 3;
+
+/// The mode whose privilege the access has.
+#[inline]
+pub(crate) fn effective_mode(state: &State, kind: Kind) -> u8
+    ensures { result ≡ effective_mode state.now kind }
+{
+    if state.mode == MACHINE && !kind.is_fetch() && is_bit_set(state.csr.mstatus, 17) {
+        return ((state.csr.mstatus >> 11) & 3) as u8;
+    }
+    state.mode
+}
+
+/// Whether the access is not translated.
+#[inline]
+pub(crate) fn is_bare(state: &State, kind: Kind) -> bool
+    ensures { result ≡ is_bare state.now kind }
+{
+    effective_mode(state, kind) == MACHINE || !is_bit_set(state.csr.satp, 31)
+}
