@@ -1,0 +1,4 @@
+pub mod Causes
+pub mod Pending
+pub mod Enter
+pub mod Return
