@@ -1,3 +1,4 @@
+pub mod Decoding
 pub mod Masks
 pub mod Spelling
 pub mod Table

@@ -1,3 +1,4 @@
+pub mod Decoding
 pub mod Encoding
 pub mod Operands
 pub mod Table

@@ -2,6 +2,7 @@
 #![tactic(auto, using(crate::proofs::Masks::masks, std::proofs::lemmas::Grind::common_steps))]
 
 ghost use Rattle.std.specs.Prelude.{◌≡◌, ◌/◌, ◌%◌, ◌^◌, IfSome, IfNone, Some};
+ghost use Rattle.cx_decode.specs.Decoding.{decoded};
 ghost use Rattle.cx_decode.specs.Operands.{IsWordOf, ins_of};
 ghost use Rattle.cx_decode.specs.Table.{Matches, MatchesNone};
 ghost use Rattle.cx_decode.specs.WellFormed.{WellFormed};
@@ -107,12 +108,13 @@ fn find(word: u32) -> Option<Ins>
 }
 
 /// The instruction that a word spells, or None where no row of the table matches it.
-#[tactic(auto, using(crate::proofs::Table::found_of_row))]
+#[tactic(auto, using(crate::proofs::Table::found_of_row, crate::proofs::Decoding::decoded_found))]
 pub fn decode(word: u32) -> Option<Ins>
     ensures found { IfSome result (IsWordOf word) }
     ensures formed { IfSome result WellFormed }
     ensures none { IfNone result (MatchesNone word) }
     ensures only { (op : Op) → Matches word op → result ≡ Some (ins_of op word) }
+    ensures whole { result ≡ decoded word }
 {
     find(word)
 }
