@@ -1,5 +1,5 @@
 -- What contracts see of the physical memory, and where it lies.
-use Rattle.std.specs.Prelude.{◌≡◌, ◌⊎◌, ℕ, ◌+◌, ◌-◌, ◌*◌, ◌%◌, ◌≤◌, List, length, take, drop}
+use Rattle.std.specs.Prelude.{ℕ, ◌+◌, ◌-◌, ◌*◌, ◌%◌, ◌≤◌, List, length, take, drop}
 
 -- The bytes of RAM in order, and how many pages can still get a frame of their own without taking memory.
 pub record PhysicalMemory : Type 0 where
@@ -18,9 +18,9 @@ IsInRam memory place len = (0x8000_0000 ≤ place) × (place + len ≤ 0x8000_00
 abbrev pub IsInOnePage : ℕ → ℕ → Type 0
 IsInOnePage place len = place % 4096 + len ≤ 4096
 
--- A load or a store moves 1, 2 or 4 bytes.
+-- A load or a store moves 1 to 4 bytes: three are a part of an access that goes on in the next page.
 abbrev pub IsAccessLength : ℕ → Type 0
-IsAccessLength len = (len ≡ 1) ⊎ (len ≡ 2) ⊎ (len ≡ 4)
+IsAccessLength len = (1 ≤ len) × (len ≤ 4)
 
 -- RAM has the page of this number, counted from 0.
 abbrev pub IsPage : List ℕ → ℕ → Type 0

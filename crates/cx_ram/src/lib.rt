@@ -1,6 +1,6 @@
 //! The physical memory of the machine: its RAM from place 0x8000_0000 on, as bytes.
 //!
-//! Contracts see one flat list of bytes. Loads and stores of 1, 2 and 4 bytes are little-endian and stay inside a page;
+//! Contracts see one flat list of bytes. Loads and stores of 1 to 4 bytes are little-endian and stay inside a page;
 //! bytes of a device go in at any place; whole pages come and go for those who read and write recordings.
 #![tactic(auto)]
 

@@ -1,12 +1,20 @@
 //! Numbers and bytes in a slice of bytes. The byte at the lowest index is the least significant one.
 
-ghost use Rattle.std.specs.Prelude.{◌≡◌, ◌↔◌, ℕ, ◌+◌, ◌*◌, ◌^◌, ◌<◌, ◌≤◌, length, All, IsTrue};
+ghost use Rattle.std.specs.Prelude.{◌≡◌, ◌↔◌, ℕ, ◌+◌, ◌*◌, ◌^◌, ◌<◌, ◌≤◌, length, slice_index, All, IsTrue};
 ghost use Rattle.cx_ram.specs.LittleEndian.{loaded, stored, written};
 ghost use Rattle.cx_ram.specs.PhysicalMemory.{IsAccessLength};
 
-/// The value of the 1, 2 or 4 bytes from index `at` on.
+/// Tells that what a slice of bytes holds is below 256.
 #[inline(always)]
-#[tactic(auto, using(crate::proofs::Loads::loaded_one, crate::proofs::Loads::loaded_two, crate::proofs::Loads::loaded_four))]
+pub fn are_bytes(memory: &[u8])
+    ensures { (i : ℕ) → slice_index memory.now i < 256 }
+{
+    let _ = memory;
+}
+
+/// The value of the 1 to 4 bytes from index `at` on.
+#[inline(always)]
+#[tactic(auto, using(crate::proofs::Loads::loaded_one, crate::proofs::Loads::loaded_two, crate::proofs::Loads::loaded_three, crate::proofs::Loads::loaded_four))]
 pub fn load(memory: &[u8], at: usize, len: u8) -> u32
     requires within { at + len ≤ length memory.now }
     requires length { IsAccessLength len }
@@ -16,6 +24,7 @@ pub fn load(memory: &[u8], at: usize, len: u8) -> u32
     match len {
         1 => u32::from(memory[at]),
         2 => u32::from(u16::from_le_bytes([memory[at], memory[at + 1]])),
+        3 => u32::from_le_bytes([memory[at], memory[at + 1], memory[at + 2], 0]),
         _ => u32::from_le_bytes([memory[at], memory[at + 1], memory[at + 2], memory[at + 3]]),
     }
 }
@@ -29,7 +38,7 @@ pub fn write(memory: &mut [u8], at: usize, bytes: &[u8])
     memory[at..at + bytes.len()].copy_from_slice(bytes);
 }
 
-/// Puts the 1, 2 or 4 low bytes of a value in the place of those from index `at` on.
+/// Puts the 1 to 4 low bytes of a value in the place of those from index `at` on.
 #[inline(always)]
 pub fn store(memory: &mut [u8], at: usize, len: u8, value: u32)
     requires within { at + len ≤ length memory.old }
@@ -40,6 +49,7 @@ pub fn store(memory: &mut [u8], at: usize, len: u8, value: u32)
     match len {
         1 => write(memory, at, &bytes[..1]),
         2 => write(memory, at, &bytes[..2]),
+        3 => write(memory, at, &bytes[..3]),
         _ => write(memory, at, &bytes),
     }
 }

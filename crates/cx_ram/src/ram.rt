@@ -1,10 +1,10 @@
 //! RAM, its loads and stores, and its pages.
 
-ghost use Rattle.std.specs.Prelude.{◌≡◌, ◌↔◌, ℕ, ◌+◌, ◌-◌, ◌*◌, ◌^◌, ◌<◌, ◌≤◌, List, length, replicate, All, IfOk, IsTrue};
+ghost use Rattle.std.specs.Prelude.{◌≡◌, ◌↔◌, ℕ, ◌+◌, ◌-◌, ◌*◌, ◌^◌, ◌<◌, ◌≤◌, List, length, replicate, slice_index, All, IfOk, IsTrue};
 ghost use Rattle.cx_ram.specs.LittleEndian.{loaded, stored, written};
 ghost use Rattle.cx_ram.specs.PhysicalMemory.{IsAccessLength, IsInOnePage, IsInRam, IsPage, page_of, ram_index};
 
-use crate::little_endian::{is_all_zero, load, store, write};
+use crate::little_endian::{are_bytes, is_all_zero, load, store, write};
 use std::alloc::Global;
 use std::marker::Model;
 
@@ -52,24 +52,27 @@ impl Ram {
         }
     }
 
-    /// The number of pages.
+    /// The number of pages. RAM holds bytes, each below 256.
     pub fn pages(&self) -> u32
         ensures whole { 4096 * result ≡ length self.now.memory }
+        ensures bytes { (i : ℕ) → slice_index self.now.memory i < 256 }
         ensures some { 1 ≤ result }
         ensures most { result ≤ 262144 }
     {
+        are_bytes(&self.memory);
         self.pages
     }
 
     /// Whether the `len` bytes from place `pa` on all lie in RAM.
     pub fn contains(&self, pa: u32, len: u32) -> bool
-        ensures { IsTrue result ↔ IsInRam self.now.memory pa len }
+        ensures inside { IsTrue result ↔ IsInRam self.now.memory pa len }
+        ensures most { IsTrue result → pa + len ≤ 2 ^ 31 + 2 ^ 30 }
     {
         let end = RAM_START as usize + self.memory.len();
         pa >= RAM_START && pa as usize + len as usize <= end
     }
 
-    /// The value of the 1, 2 or 4 bytes from place `pa` on, which lie in one page of RAM.
+    /// The value of the 1 to 4 bytes from place `pa` on, which lie in one page of RAM.
     pub fn load(&self, pa: u32, len: u8) -> u32
         requires ram { IsInRam self.now.memory pa len }
         requires page { IsInOnePage pa len }
@@ -80,7 +83,7 @@ impl Ram {
         load(&self.memory, (pa - RAM_START) as usize, len)
     }
 
-    /// Writes the low 1, 2 or 4 bytes of a value from place `pa` on, which lie in one page of RAM.
+    /// Writes the low 1 to 4 bytes of a value from place `pa` on, which lie in one page of RAM.
     pub fn store(&mut self, pa: u32, len: u8, value: u32)
         requires ram { IsInRam self.old.memory pa len }
         requires page { IsInOnePage pa len }
