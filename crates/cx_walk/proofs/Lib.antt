@@ -5,3 +5,4 @@ pub mod Listed
 pub mod RamWord
 pub mod SameTrail
 pub mod SameWord
+pub mod Outcomes

@@ -1,6 +1,6 @@
 -- The kinds of accesses to memory, and the cause of the exception where one fails (Privileged 1.12, section 3.1.15:
 -- a load-reserved faults as a load, a store-conditional and an atomic operation as a store).
-use Rattle.std.specs.Prelude.{ℕ, Bool, true, false}
+use Rattle.std.specs.Prelude.{◌≡◌, ◌⊎◌, ℕ, Bool, true, false}
 use Rattle.cx_walk.specs.declared.kind.Kind.{Kind}
 use Rattle.cx_walk.specs.declared.kind.Kind.TheVariants.{Fetch, Load, Store, Reserve, Atomic}
 
@@ -17,6 +17,10 @@ page_fault Load = 13
 page_fault Reserve = 13
 page_fault Store = 15
 page_fault Atomic = 15
+
+-- one of the two causes of a fault of this kind
+abbrev pub IsFault : Kind → ℕ → Type 0
+IsFault kind cause = (cause ≡ access_fault kind) ⊎ (cause ≡ page_fault kind)
 
 -- an access that reads an instruction, and not data
 abbrev pub is_fetch : Kind → Bool

@@ -1,12 +1,13 @@
 //! What holds of every walk.
 
-ghost use Rattle.std.specs.Prelude.{◌≡◌, ℕ, ◌%◌, ◌^◌, ◌<◌, ◌≤◌, ◌⊎◌, Option, Some, IsSome, IfOk, slice_index};
+ghost use Rattle.std.specs.Prelude.{◌≡◌, ℕ, ◌%◌, ◌^◌, ◌<◌, ◌≤◌, ◌⊎◌, Option, Some, IsSome, IfOk, IfErr, slice_index};
 ghost use Rattle.cx_csr.specs.declared.state.State.{State};
 ghost use Rattle.cx_walk.specs.declared.kind.Kind.{Kind};
 ghost use Rattle.cx_walk.specs.declared.device.DeviceWord.{DeviceWord};
 ghost use Rattle.cx_walk.specs.Agreement.{AgreesOn};
 ghost use Rattle.cx_walk.specs.Bytes.{word_at};
 ghost use Rattle.cx_walk.specs.Devices.{device_at, place_of};
+ghost use Rattle.cx_walk.specs.Kinds.{IsFault};
 ghost use Rattle.cx_walk.specs.Walks.{IsFound, address_of, walk_of};
 
 /// A walk depends on no word of memory but those at its places: two views that agree there give the same walk, where the
@@ -41,6 +42,15 @@ pub fn an_answer_stands_at_the_address()
     ensures found { (word : ℕ → Option ℕ) (pages : ℕ) (s : State) (kind : Kind) (va len : ℕ)
         → (len ≡ 1) ⊎ (len ≡ 2) ⊎ (len ≡ 4) → va % len ≡ 0
         → IfOk (walk_of word pages s kind va len).answer (IsFound pages kind len) }
+{}
+
+/// The address of an answer has the virtual address's offset in its page, and a fault is the access fault or the page fault
+/// of the kind of access.
+pub fn an_outcome_is_of_its_access()
+    ensures offset { (word : ℕ → Option ℕ) (pages : ℕ) (s : State) (kind : Kind) (va len : ℕ)
+        → IfOk (walk_of word pages s kind va len).answer (λ place. address_of place % 4096 ≡ va % 4096) }
+    ensures fault { (word : ℕ → Option ℕ) (pages : ℕ) (s : State) (kind : Kind) (va len : ℕ)
+        → IfErr (walk_of word pages s kind va len).answer (IsFault kind) }
 {}
 
 /// Each word of the devices is found at its place, which is aligned and below RAM.

@@ -18,8 +18,9 @@ mod words;
 pub use device::DeviceWord;
 pub use kind::Kind;
 pub use laws::{
-    a_walk_reads_only_its_places, an_answer_stands_at_the_address, device_words_are_apart,
-    places_are_in_memory,
+    a_walk_reads_only_its_places, an_answer_stands_at_the_address, an_outcome_is_of_its_access,
+    device_words_are_apart, places_are_in_memory,
 };
+pub use mode::is_bare;
 pub use walk::{Place, Walk, translate};
 pub use words::Words;

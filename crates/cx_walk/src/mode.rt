@@ -20,9 +20,10 @@ pub(crate) fn effective_mode(state: &State, kind: Kind) -> u8
     state.mode
 }
 
-/// Whether the access is not translated.
+/// Whether an access of this kind isn't translated in this state, so that its physical address is its virtual one: its mode
+/// is machine mode, or bit 31 of `satp` is clear (Privileged 1.12, section 4.1.11).
 #[inline]
-pub(crate) fn is_bare(state: &State, kind: Kind) -> bool
+pub fn is_bare(state: &State, kind: Kind) -> bool
     ensures { result ≡ is_bare state.now kind }
 {
     effective_mode(state, kind) == MACHINE || !is_bit_set(state.csr.satp, 31)
