@@ -1,0 +1,37 @@
+//! The whole step of the machine: one hart with its RAM (RISC-V Unprivileged ISA 20191213, Privileged Architecture 1.12).
+//!
+//! A step takes an interrupt, or fetches a word and carries it out, or takes a trap; it is a function of the state, the
+//! memory, what the outside hands to the step, and whether misaligned loads and stores are carried out. `Machine` takes
+//! steps in place, and each is told by a record. The laws say that a step reads nothing but what its record names, and
+//! that it keeps the rules of the state.
+#![tactic(auto)]
+
+mod access;
+mod after;
+mod answer;
+mod conclude;
+mod control;
+mod execute;
+mod fetch;
+mod laws;
+mod legal;
+mod machine;
+mod reach;
+mod record;
+mod sights;
+mod steps;
+mod system;
+#[cfg(test)]
+mod tests;
+mod turn;
+mod view;
+
+pub use answer::{Asked, Due, StepAnswer};
+pub use cx_ram::NoMemory;
+pub use laws::{
+    a_step_keeps_its_size_and_lines, a_step_keeps_the_rules, a_step_reads_only_its_record,
+    transfers_come_first,
+};
+pub use machine::Machine;
+pub use record::{Ended, StepRec, Touch};
+pub use steps::Steps;
