@@ -1,0 +1,12 @@
+-- A memory that is copied page by page.
+use Rattle.std.proofs.Common.{◌≡◌, ℕ, ◌+◌, ◌*◌, ◌++◌, List, arith, take, refl}
+use Rattle.std.proofs.Math.Seq.{take-add}
+use Rattle.cx_ram.specs.PhysicalMemory.{page_of}
+
+-- one page more
+pub page_more : (memory copied page next : List ℕ) (n : ℕ) → next ≡ copied ++ page → copied ≡ take (n * 4096) memory → page ≡ page_of memory n → next ≡ take ((n + 1) * 4096) memory
+unfolding page_of
+page_more memory copied page next n is so_far the_page =
+    let longer : (n + 1) * 4096 ≡ n * 4096 + 4096 = omega arith in
+    let place : 4096 * n ≡ n * 4096 = omega arith in
+    rw (is, so_far, the_page, place, longer, take-add) refl

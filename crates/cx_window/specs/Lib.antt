@@ -1,0 +1,4 @@
+pub mod Marks
+pub mod Progress
+pub mod Slice
+pub mod Cut
