@@ -1,5 +1,5 @@
 -- Physical memory as a flat list of bytes, in pages of 4,096. RAM begins at place 2^31, so place p is index p - 2^31.
-use Rattle.std.specs.Prelude.{◌≡◌, ℕ, zero, suc, ◌+◌, ◌*◌, ◌^◌, ◌<◌, ◌==◌, Bool, not, List, [], ◌∷◌, ◌++◌, length, take, drop, All, if◌then◌else◌}
+use Rattle.std.specs.Prelude.{◌≡◌, ℕ, ◌+◌, ◌*◌, ◌^◌, ◌<◌, ◌==◌, Bool, List, ◌++◌, length, take, drop, All}
 use Rattle.std.specs.List.{list_all}
 
 -- the place of the first byte of RAM

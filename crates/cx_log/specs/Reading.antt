@@ -1,9 +1,9 @@
 -- How a recording is read, field by field: each reader answers its value and the place behind it, or the offset of the
 -- first bad field.
-use Rattle.std.specs.Prelude.{◌≡◌, ℕ, zero, suc, ◌+◌, ◌-◌, ◌*◌, ◌^◌, nat_lt, nat_le, ◌==◌, ◌&&◌, Bool, List, [], ◌∷◌, slice_index, length, min, Option, None, Some, Result, Ok, Err, if◌then◌else◌}
+use Rattle.std.specs.Prelude.{ℕ, zero, suc, ◌+◌, ◌-◌, ◌*◌, ◌^◌, nat_le, ◌==◌, ◌&&◌, Bool, List, [], ◌∷◌, length, min, Option, None, Some, Ok, Err, if◌then◌else◌}
 use Rattle.cx_csr.specs.Rules.{admits, rule_at}
 use Rattle.cx_csr.specs.Words.{state_of}
-use Rattle.cx_codec.specs.Place.{Place, Reader, ◌>>=◌, done, here, bad}
+use Rattle.cx_codec.specs.Place.{Reader, ◌>>=◌, done, here, bad}
 use Rattle.cx_codec.specs.Fields.{bytes_at, byte_at, word_at, varint_at}
 use Rattle.cx_log.specs.Memory.{written_at, is_zero}
 use Rattle.cx_log.specs.Order.{next_mark}
@@ -57,12 +57,6 @@ page_at pages least = do
   number ← varint_between least (pages - 1)
   bytes ← page_bytes_at
   done (record { number = number; bytes = bytes })
-
--- A page of this number was read, and its bytes were put into a memory.
-pub record PutsPage (old new : List ℕ) (number : ℕ) (read : Result (Page × Place) ℕ) (after : Place) : Type 0 where
-  pub bytes : List ℕ
-  pub page : read ≡ Ok (record { number = number; bytes = bytes }, after)
-  pub put : new ≡ written_at old (number * 4096) bytes
 
 -- the next of the pages that are left, or none behind the last
 unfoldable pub next_page_at : ℕ → ℕ → ℕ → Reader (Option Page)

@@ -10,7 +10,7 @@ ghost use Rattle.cx_csr.specs.Words.{state_of};
 ghost use Rattle.cx_log.specs.Fault.{log_offset};
 ghost use Rattle.cx_log.specs.Memory.{is_zero};
 ghost use Rattle.cx_log.specs.Order.{IsHeader, MayEnd, at_start, next_mark};
-ghost use Rattle.cx_log.specs.Reading.{PutsPage, varint_between, header_at, page_bytes_at, page_at, pages_at, next_page_at, end_record_at, close_at};
+ghost use Rattle.cx_log.specs.Reading.{varint_between, header_at, page_bytes_at, next_page_at, end_record_at, close_at};
 
 use crate::fault::LogFault;
 use crate::fields::{state_words, varint_between};
@@ -221,60 +221,6 @@ impl LogReader {
         Ok(Some(number))
     }
 
-    // Reads the next page, of which there is one, into its place of a memory.
-    #[tactic(auto, unfolding(crate::specs::Reading::page_at))]
-    fn page_into<S: Source>(&mut self, memory: &mut [u8], source: &mut S) -> Result<u32, LogFault>
-        requires live { IsTrue self.old.input.live }
-        requires rules { IsHeader self.old.header }
-        requires some { 0 < self.old.left }
-        requires size { length memory.old ≡ self.old.header.pages * 4096 }
-        ensures told { IsSome (S.left source.old) → IsSome (S.left source.new) }
-        ensures page { IsSome (S.left source.old) → MatchResult result
-            (λ n. PutsPage memory.old memory.new n (page_at self.old.header.pages self.old.least
-            (seen self.old.input (S.left source.old))) (seen self.new.input (S.left source.new)))
-            (λ e. FailsAt (log_offset e) (page_at self.old.header.pages self.old.least (seen self.old.input (S.left source.old)))) }
-        ensures next { IfOk result (λ n. self.new.least ≡ n + 1) }
-        ensures left { OnOk result (self.new.left + 1 ≡ self.old.left) }
-        ensures header { self.new.header ≡ self.old.header }
-        ensures limit { self.new.input.limit ≡ self.old.input.limit }
-        ensures live { self.new.input.live ≡ is_ok result }
-        ensures cause { HasCause LogFault.ReadFault (S.faults source.old) (S.faults source.new) result }
-    {
-        let number = self.page_number(source)?;
-        let start = number as usize * PAGE;
-        page_bytes(&mut self.bytes, &mut memory[start..start + PAGE], source)?;
-        Ok(number)
-    }
-
-    /// Reads all pages that are left into their places of a memory, which is as long as RAM. `Format` comes exactly where one
-    /// of them is bad, as for `next_page`, and `ReadFault` only where the source's count of faults rose.
-    pub fn fill<S: Source>(&mut self, memory: &mut [u8], source: &mut S) -> Result<(), LogFault>
-        requires live { IsTrue self.old.input.live }
-        requires rules { IsHeader self.old.header }
-        requires size { length memory.old ≡ self.old.header.pages * 4096 }
-        ensures told { IsSome (S.left source.old) → IsSome (S.left source.new) }
-        ensures pages { IsSome (S.left source.old) → Gives log_offset (λ _. memory.new)
-            (pages_at self.old.header.pages self.old.left self.old.least memory.old (seen self.old.input (S.left source.old)))
-            (seen self.new.input (S.left source.new)) result }
-        ensures left { OnOk result (self.new.left ≡ 0) }
-        ensures header { self.new.header ≡ self.old.header }
-        ensures limit { self.new.input.limit ≡ self.old.input.limit }
-        ensures live { self.new.input.live ≡ is_ok result }
-        ensures cause { HasCause LogFault.ReadFault (S.faults source.old) (S.faults source.new) result }
-    {
-        while self.left() > 0 {
-            self.page_into(memory, source)?;
-        }
-        Ok(())
-    }
-
-    // How many pages are left.
-    fn left(&self) -> u32
-        ensures { result ≡ self.now.left }
-    {
-        self.left
-    }
-
     /// Reads End behind the pages, and answers its step; None where a record of another kind begins, which isn't read
     /// then. `Format` comes exactly where the tag is none of a record, or where End isn't above base, is above 2^48 or
     /// has a mark owed below it. The records have a limit from here on: 2^40 bytes behind the first one's first byte.
@@ -290,6 +236,7 @@ impl LogReader {
             (end_record_at self.old.header.base (seen self.old.input (S.left source.old))) (seen self.new.input (S.left source.new)) result }
         ensures rules_kept { IfOk result (λ end. IfSome end (MayEnd (at_start self.old.header.base self.old.header.start))) }
         ensures header { self.new.header ≡ self.old.header }
+        ensures pages { (self.new.left ≡ self.old.left) × (self.new.least ≡ self.old.least) }
         ensures live { self.new.input.live ≡ is_ok result }
         ensures cause { HasCause LogFault.ReadFault (S.faults source.old) (S.faults source.new) result }
     {
@@ -319,6 +266,8 @@ impl LogReader {
         ensures field { IsSome (S.left source.old) → Gives log_offset (λ u. tt)
             (close_at (seen self.old.input (S.left source.old))) (seen self.new.input (S.left source.new)) result }
         ensures header { self.new.header ≡ self.old.header }
+        ensures pages { (self.new.left ≡ self.old.left) × (self.new.least ≡ self.old.least) }
+        ensures limit { self.new.input.limit ≡ self.old.input.limit }
         ensures live { self.new.input.live ≡ is_ok result }
         ensures cause { HasCause LogFault.ReadFault (S.faults source.old) (S.faults source.new) result }
     {

@@ -36,16 +36,18 @@ fn replaced(
     Ok(all)
 }
 
-/// Reads a recording up to its first record, and to its end where that is End: answers its step then.
-fn read_whole<S: Source>(alloc: Global, source: &mut S) -> Result<Option<u64>, LogFault> {
+/// Reads a recording of one page up to its first record, and to its end where that is End: answers its step then.
+fn read_whole<S: Source>(
+    rt: &impl Abort,
+    alloc: Global,
+    source: &mut S,
+) -> Result<Option<u64>, LogFault> {
     let mut bytes = Bytes::new(alloc)?;
     bytes.take(&mut [0; 4], source)?;
     let mut reader = LogReader::open(alloc, bytes, source)?;
-    let size = reader.header().pages as usize * PAGE;
-    match vec![in alloc; 0u8; size] {
-        Ok(mut memory) => reader.fill(&mut memory, source)?,
-        Err(_) => return Err(LogFault::NoMemory),
-    }
+    let mut page = [0; PAGE];
+    reader.next_page(&mut page, source)?;
+    assert_eq!(rt; reader.next_page(&mut page, source)?, None);
     let end = reader.end(source)?;
     if end.is_some() {
         reader.close(source)?;
@@ -80,11 +82,14 @@ fn bad_fields_are_told_by_their_offsets(rt: HostRuntime) -> Result<(), Fail> {
         (4338, 0, b"\xff", Err(4338)),
     ] {
         let mut source = MemSource::new(replaced(alloc, &good, at, gone, new)?, Vec::new(alloc));
-        let read = read_whole(alloc, &mut source);
+        let read = read_whole(&rt, alloc, &mut source);
         assert_eq!(rt; read, want.map_err(LogFault::Format), "{new:?} at {at}");
     }
     let mut source = MemSource::new(good, [1].to_vec(alloc)?);
-    assert_eq!(rt; read_whole(alloc, &mut source), Err(LogFault::ReadFault));
+    assert_eq!(rt;
+        read_whole(&rt, alloc, &mut source),
+        Err(LogFault::ReadFault)
+    );
     Ok(())
 }
 

@@ -1,16 +1,13 @@
 -- What is answered to the words and the bytes of the input.
-use Rattle.std.specs.Prelude.{ℕ, ◌+◌, ◌-◌, ◌*◌, ◌^◌, nat_lt, nat_le, ◌==◌, ◌&&◌, Bool, is_none, List, [], replicate, Option, None, Some, Result, Ok, Err, if◌then◌else◌}
+use Rattle.std.specs.Prelude.{ℕ, ◌+◌, ◌-◌, ◌*◌, ◌^◌, ◌==◌, List, [], replicate, Option, None, Some, Result, Ok, Err, if◌then◌else◌}
 use Rattle.std.specs.Str.{bytes_eq}
-use Rattle.cx_csr.specs.declared.state.State.{State}
-use Rattle.cx_csr.specs.declared.state.CsrFile.{CsrFile}
 use Rattle.cx_codec.specs.Place.{Place, Reader, ◌>>=◌, done, here, bad}
 use Rattle.cx_codec.specs.Fields.{bytes_at}
 use Rattle.cx_log.specs.declared.header.Header.{Header}
 use Rattle.cx_log.specs.Text.{magic}
 use Rattle.cx_log.specs.Recording.{Recording}
 use Rattle.cx_log.specs.Reading.{header_at, pages_at, end_record_at, close_at}
-use Rattle.cx_top.specs.PlainStep.{plain_step}
-use Rattle.cx_run.specs.Run.{built_steps}
+use Rattle.cx_window.specs.Cut.{built, has_window}
 use Rattle.cx_top.specs.declared.status.Status.{Status}
 use Rattle.cx_top.specs.declared.status.Status.TheVariants.{Done, Format, NotThere, NotBuilt}
 
@@ -37,17 +34,6 @@ opened_at = do
   memory ← pages_at header.pages header.count 0 (replicate (header.pages * 4096) 0)
   done (record { header = header; memory = memory })
 
--- A start that the two instructions suffice for: machine mode, and nothing in a control register but the counters, no
--- reservation and no line.
-abbrev pub is_plain_csr : CsrFile → Bool
-is_plain_csr c =
-    c.mstatus == 0 && c.medeleg == 0 && c.mideleg == 0 && c.mie == 0 && c.mip == 0
-    && c.mtvec == 0 && c.mcounteren == 0 && c.mscratch == 0 && c.mepc == 0 && c.mcause == 0 && c.mtval == 0
-    && c.stvec == 0 && c.scounteren == 0 && c.sscratch == 0 && c.sepc == 0 && c.scause == 0 && c.stval == 0 && c.satp == 0
-
-abbrev pub is_plain : State → Bool
-is_plain s = s.mode == 3 && is_plain_csr s.csr && is_none s.reservation && s.lines.0 == 0
-
 abbrev pub recording_of : Opened → ℕ → Recording
 recording_of o end = record { pages = o.header.pages; base = o.header.base; start = o.header.start; memory = o.memory; events = []; end = end }
 
@@ -61,24 +47,20 @@ abbrev pub ended : Recording → Result (Unit {0} × Place) ℕ → Judgement
 ended R (Ok x) = Whole R
 ended R (Err o) = Refused (Format o)
 
--- each step below End has to be carried out
+-- each step below End has to be carried out: so many are, before the first that asks for a value
 abbrev pub ran : Recording → ℕ → Place → Judgement
-ran R built p = if built == R.end - R.base then ended R (close_at p) else Refused (NotBuilt (R.base + built))
+ran R steps p = if steps == R.end - R.base then ended R (close_at p) else Refused (NotBuilt (R.base + steps))
 
 abbrev pub closed : Opened → Result (Option ℕ × Place) ℕ → Judgement
 closed o (Err offset) = Refused (Format offset)
-closed o (Ok x) = elim x.0 [ None ↦ Refused (NotBuilt o.header.base) | Some end ↦ ran (recording_of o end) (built_steps plain_step (recording_of o end) (end - o.header.base)) x.1 ]
+closed o (Ok x) = elim x.0 [ None ↦ Refused (NotBuilt o.header.base) | Some end ↦ ran (recording_of o end) (built (recording_of o end)) x.1 ]
 
 abbrev pub begun : Result (Opened × Place) ℕ → Judgement
 begun (Err offset) = Refused (Format offset)
-begun (Ok x) = if is_plain x.0.header.start then closed x.0 (end_record_at x.0.header.base x.1) else Refused (NotBuilt x.0.header.base)
+begun (Ok x) = closed x.0 (end_record_at x.0.header.base x.1)
 
 abbrev pub judged : List ℕ → Judgement
 judged bytes = begun (opened_at (start_of bytes))
-
--- the window's steps are there
-abbrev pub has_window : Recording → ℕ → ℕ → Bool
-has_window R a b = nat_le R.base a && nat_lt a b && nat_le b R.end
 
 -- The answer to `window a b`.
 abbrev pub window_answer : ℕ → ℕ → Judgement → Status

@@ -1,9 +1,5 @@
-pub mod PlainStep
-pub mod Progress
 pub mod Judged
-pub mod Slice
 pub mod Ending
-pub mod Cut
 pub mod Faults
 pub mod Window
 pub mod Call

@@ -7,11 +7,13 @@ use Rattle.cx_log.specs.Recording.{Recording}
 use Rattle.cx_log.specs.Text.{recording_text}
 use Rattle.cx_run.specs.Run.{Accepts, Run, run_of}
 use Rattle.cx_run.specs.Window.{IsWindow}
-use Rattle.cx_top.specs.PlainStep.{plain_step, plain_reads}
-use Rattle.cx_top.specs.Judged.{Judgement, Whole, window_answer, has_window}
-use Rattle.cx_top.specs.Slice.{IsCut}
-use Rattle.cx_top.specs.declared.hart.Retired.{Retired}
-use Rattle.cx_top.specs.declared.slice.Slice.{Slice}
+use Rattle.cx_hart.specs.Reads.{read_indices}
+use Rattle.cx_hart.specs.declared.record.StepRec.{StepRec}
+use Rattle.cx_replay.specs.HartStep.{replay_step}
+use Rattle.cx_window.specs.Cut.{has_window}
+use Rattle.cx_window.specs.Slice.{IsCut}
+use Rattle.cx_window.specs.declared.slice.Slice.{Slice}
+use Rattle.cx_top.specs.Judged.{Judgement, Whole, window_answer}
 use Rattle.cx_top.specs.declared.status.Status.{Status}
 use Rattle.cx_top.specs.declared.status.Status.TheVariants.{Format, NotThere, ReadFault, NoMemory, NotBuilt}
 
@@ -31,7 +33,7 @@ pub record SlicesOf (a b : ℕ) (judgement : Judgement) (s : Slice) : Type 0 whe
   pub whole : judgement ≡ Whole of
   pub rules : KeepsRules of
   pub plain : of.events ≡ []
-  pub unbroken : IsSome (run_of plain_step of (of.end - of.base))
+  pub unbroken : IsSome (run_of replay_step of (of.end - of.base))
   pub there : has_window of a b ≡ true
   pub cut : IsCut of a b s
 
@@ -46,11 +48,11 @@ ReadsSlice a b judgement (Err status) = window_answer a b judgement ≡ status
 pub record WindowOf (a b : ℕ) (judgement : Judgement) (W : Recording) : Type 0 where
   pub of : Recording
   pub whole : judgement ≡ Whole of
-  pub window : IsWindow plain_step plain_reads of a b W
-  pub accepted : Accepts plain_step W
-  pub run : Run Retired
-  pub run_is : run_of plain_step of (of.end - of.base) ≡ Some run
-  pub same_run : IsSomeAnd (run_of plain_step W (W.end - W.base)) (λ here. here.records ≡ take (b - a) (drop (a - of.base) run.records))
+  pub window : IsWindow replay_step read_indices of a b W
+  pub accepted : Accepts replay_step W
+  pub run : Run StepRec
+  pub run_is : run_of replay_step of (of.end - of.base) ≡ Some run
+  pub same_run : IsSomeAnd (run_of replay_step W (W.end - W.base)) (λ here. here.records ≡ take (b - a) (drop (a - of.base) run.records))
 
 -- what Done has written: the text of the window, and nothing else
 pub record WritesWindow (a b : ℕ) (judgement : Judgement) (held now : Option (List ℕ)) : Type 0 where

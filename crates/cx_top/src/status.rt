@@ -2,7 +2,7 @@
 
 ghost use Rattle.std.specs.Prelude.{◌≡◌, ◌≤◌, ◌++◌, length};
 ghost use Rattle.std.specs.Fmt.{decimal};
-ghost use Rattle.cx_top.specs.Faults.{status_of_log, status_of_out};
+ghost use Rattle.cx_top.specs.Faults.{status_of_cut, status_of_log, status_of_out};
 ghost use Rattle.cx_top.specs.declared.status.Status.TheVariants.{NoMemory as no_memory};
 ghost use Rattle.cx_top.specs.Ending.{number_of, line_of};
 
@@ -10,6 +10,7 @@ use cx_codec::OutFault;
 use cx_io::NoMemory;
 use cx_log::LogFault;
 use cx_print::Text;
+use cx_window::CutFault;
 
 /// How a command ended.
 #[derive(Clone, Copy, Debug, PartialEq, Eq)]
@@ -101,6 +102,17 @@ impl From<OutFault> for Status {
         match fault {
             OutFault::WriteFault => Status::WriteFault,
             OutFault::NoMemory => Status::NoMemory,
+        }
+    }
+}
+
+impl From<CutFault> for Status {
+    ghost from_gives = { λ fault s. s ≡ status_of_cut fault };
+
+    fn from(fault: CutFault) -> Self {
+        match fault {
+            CutFault::NeedsValue(step) => Status::NotBuilt(step),
+            CutFault::NoMemory => Status::NoMemory,
         }
     }
 }

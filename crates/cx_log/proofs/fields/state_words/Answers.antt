@@ -1,7 +1,7 @@
 use Rattle.std.proofs.Common.{arith, refl, ◌∙◌}
 use Rattle.std.proofs.lemmas.List.{length-set}
 use Rattle.std.proofs.lemmas.Result.{err_from_is_err_and}
-use Rattle.cx_log.proofs.Words.{none_yet, none_fits, one_more, one_more_fits, not_one_more, all_words, all_fit}
+use Rattle.cx_log.proofs.Words.{none_yet, none_fits, one_more, one_more_fits, not_one_more}
 use Rattle.cx_log.proofs.fields.state_words.Goals as goal
 
 pub loop-index-init : goal.loop-index-init

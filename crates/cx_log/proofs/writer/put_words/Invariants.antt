@@ -1,4 +1,4 @@
-use Rattle.std.proofs.Common.{◌≡◌, ℕ, List, ◌++◌, ◌^◌, ◌<◌, ◌≤◌, take, length, IsSome, IsTrue, Option}
+use Rattle.std.proofs.Common.{ℕ, List, ◌++◌, ◌^◌, ◌<◌, ◌≤◌, take, IsSome, IsTrue, Option}
 use Rattle.cx_codec.specs.Blocks.{StandsFor}
 use Rattle.cx_log.specs.Text.{words_text}
 use Rattle.cx_log.proofs.writer.put_words.Given as goal

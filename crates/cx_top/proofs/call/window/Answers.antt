@@ -1,6 +1,6 @@
 use Rattle.std.proofs.Common.{[], unwrap_or}
 use Rattle.cx_top.specs.Judged.{judged}
-use Rattle.cx_top.specs.Slice.{written_of}
+use Rattle.cx_window.specs.Slice.{written_of}
 use Rattle.cx_top.proofs.Judging.{leaves_front, window_of}
 use Rattle.cx_top.proofs.call.window.Goals as goal
 

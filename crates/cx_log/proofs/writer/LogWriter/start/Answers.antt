@@ -1,4 +1,4 @@
-use Rattle.std.proofs.Common.{ap, sym, subst, [], ◌++◌}
+use Rattle.std.proofs.Common.{[]}
 use Rattle.std.proofs.lemmas.Result.{err_from_is_err_and}
 use Rattle.cx_codec.specs.Blocks.{StandsFor}
 use Rattle.cx_log.proofs.Puts.{nothing_put}

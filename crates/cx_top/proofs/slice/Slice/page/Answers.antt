@@ -1,7 +1,0 @@
-use Rattle.std.proofs.Common.{◌≡◌, ◌+◌, ◌-◌, ◌*◌, refl, arith}
-use Rattle.cx_top.proofs.slice.Slice.page.Goals as goal
-
-pub returns : goal.returns
-returns c =
-    let len : c.args.page * 4096 + 4096 - c.args.page * 4096 ≡ 4096 = omega arith in
-    rw (c.in-Some.ensures.cases.same, len, c.deref.ensures.value) refl
