@@ -17,7 +17,6 @@ pub mod Turns
 pub mod Keeping
 pub mod Ends
 pub mod Transfers
-pub mod SameWrites
 pub mod SameWalks
 pub mod SameAccess
 pub mod SameTurn

@@ -20,7 +20,8 @@ use Rattle.cx_hart.specs.Accesses.{access_done, accessed, bytes_of, carried_out,
 use Rattle.cx_hart.specs.Fetch.{place_or_trap, walk_in}
 use Rattle.cx_hart.specs.Phases.{Phase, found, trap, ◌>>=◌}
 use Rattle.cx_hart.specs.Reaching.{first_length, goes_on, is_aligned, is_split, kind_of, misaligned_cause, reached, reached_part, reached_rest, reached_second, reached_split, reached_whole, second_address, target_at}
-use Rattle.cx_hart.specs.Reads.{AgreeOn, entry_indices, ram_indices, touch_indices}
+use Rattle.cx_ram.specs.Agreement.{AgreeOn}
+use Rattle.cx_hart.specs.Reads.{entry_indices, ram_indices, touch_indices}
 use Rattle.cx_hart.specs.Stretches.{IsPart, IsTarget}
 use Rattle.cx_hart.specs.Touches.{touch, value_at}
 use Rattle.cx_hart.specs.Walked.{part_walk, places_of, places_of_access, places_of_rest, places_of_split}

@@ -7,11 +7,13 @@ use Rattle.cx_ram.specs.PhysicalMemory.{ram_index}
 use Rattle.cx_hart.specs.After.{after_retired, after_trap, interrupt_cause, memory_after, memory_after_touch}
 use Rattle.cx_hart.specs.Machine.{MachineState}
 use Rattle.cx_hart.specs.Phases.{Phase}
-use Rattle.cx_hart.specs.Reads.{AgreeOn, IsSameStep, SameWrites, entry_indices, read_indices, touch_indices}
+use Rattle.cx_ram.specs.Agreement.{AgreeOn, SameWrites}
+use Rattle.cx_hart.specs.Reads.{IsSameStep, entry_indices, read_indices, touch_indices}
 use Rattle.cx_hart.specs.Records.{fetch_of_step, record_of, record_of_retired}
 use Rattle.cx_hart.specs.Step.{NeedsValue, Outcome, Stepped, ValueLeft, outcome_of, step, taken_or_left, turn_outcome, unless_left}
 use Rattle.cx_hart.specs.Touches.{padded}
-use Rattle.cx_hart.specs.Transfers.{Transfer, after_transfers, memory_after_transfer, state_after_transfer, with_lines}
+use Rattle.cx_ram.specs.Transfers.{Transfer}
+use Rattle.cx_hart.specs.Transfers.{after_transfers, memory_after_transfer, state_after_transfer, with_lines}
 use Rattle.cx_hart.specs.Turn.{turn}
 use Rattle.cx_hart.specs.Walked.{entry_at, places_of_step}
 use Rattle.cx_hart.specs.declared.answer.Due.{Due}
@@ -25,7 +27,7 @@ use Rattle.cx_hart.proofs.Padded.{take_front}
 use Rattle.cx_hart.proofs.SameAccess.{AgreeOnReads}
 use Rattle.cx_hart.proofs.SameTurn.{AgreeOnRetired, turn_same}
 use Rattle.cx_hart.proofs.SameWalks.{agree_back, agree_front, entries_same}
-use Rattle.cx_hart.proofs.SameWrites.{agree_behind, length_of_written, same_kept, same_then, same_written}
+use Rattle.cx_ram.proofs.SameWrites.{agree_behind, length_of_written, same_kept, same_then, same_written}
 
 -- ---- writes
 

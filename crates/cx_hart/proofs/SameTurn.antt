@@ -14,7 +14,8 @@ use Rattle.cx_hart.specs.Accesses.{seen}
 use Rattle.cx_hart.specs.Fetch.{fetched, place_or_trap, walk_in}
 use Rattle.cx_hart.specs.Legal.{ins_or_illegal}
 use Rattle.cx_hart.specs.Phases.{Phase, found, ◌>>=◌}
-use Rattle.cx_hart.specs.Reads.{AgreeOn, entry_indices, touch_indices}
+use Rattle.cx_ram.specs.Agreement.{AgreeOn}
+use Rattle.cx_hart.specs.Reads.{entry_indices, touch_indices}
 use Rattle.cx_hart.specs.Records.{fetch_of_step, touch_of, touch_unless_interrupted}
 use Rattle.cx_hart.specs.Touches.{touch, value_at}
 use Rattle.cx_hart.specs.Turn.{done_by_need, executed, turn, unless_interrupted, word_executed}

@@ -19,7 +19,8 @@ use Rattle.cx_walk.proofs.Listed.{places_inside}
 use Rattle.cx_walk.proofs.SameTrail.{same_walk}
 use Rattle.cx_hart.specs.Fetch.{walk_in}
 use Rattle.cx_hart.specs.Machine.{pages_of}
-use Rattle.cx_hart.specs.Reads.{AgreeOn, entry_indices, indices, ram_indices}
+use Rattle.cx_ram.specs.Agreement.{AgreeOn}
+use Rattle.cx_hart.specs.Reads.{entry_indices, indices, ram_indices}
 use Rattle.cx_hart.specs.Touches.{value_at}
 use Rattle.cx_hart.specs.Walked.{entry_at, places_of}
 use Rattle.cx_hart.specs.declared.turn.Part.{Part}

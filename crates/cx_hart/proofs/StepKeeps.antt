@@ -19,7 +19,8 @@ use Rattle.cx_hart.specs.Machine.{MachineState, pages_of}
 use Rattle.cx_hart.specs.Phases.{Phase}
 use Rattle.cx_hart.specs.Step.{NeedsValue, Outcome, Stepped, ValueLeft, outcome_of, step, turn_outcome}
 use Rattle.cx_hart.specs.Stretches.{IsWritable}
-use Rattle.cx_hart.specs.Transfers.{Transfer, after_transfers, memory_after_transfer, state_after_transfer, with_lines}
+use Rattle.cx_ram.specs.Transfers.{Transfer}
+use Rattle.cx_hart.specs.Transfers.{after_transfers, memory_after_transfer, state_after_transfer, with_lines}
 use Rattle.cx_hart.specs.Turn.{turn}
 use Rattle.cx_hart.specs.declared.answer.Due.{Due}
 use Rattle.cx_hart.specs.declared.record.StepRec.{StepRec}
@@ -32,7 +33,7 @@ use Rattle.cx_hart.proofs.Ends.{lines_keep}
 use Rattle.cx_hart.proofs.Keepable.{IsKeepable}
 use Rattle.cx_hart.proofs.Keeping.{keeps_after, keeps_trap}
 use Rattle.cx_hart.proofs.SameStep.{unless_kept}
-use Rattle.cx_hart.proofs.SameWrites.{written_byte}
+use Rattle.cx_ram.proofs.SameWrites.{written_byte}
 use Rattle.cx_hart.proofs.Stops.{Comes}
 use Rattle.cx_hart.proofs.Transfers.{transfer_keeps}
 use Rattle.cx_hart.proofs.Turns.{turn_comes}

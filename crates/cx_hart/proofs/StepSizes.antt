@@ -13,7 +13,8 @@ use Rattle.cx_hart.specs.Machine.{MachineState}
 use Rattle.cx_hart.specs.Phases.{Phase}
 use Rattle.cx_hart.specs.Step.{NeedsValue, Outcome, Stepped, ValueLeft, outcome_of, step, turn_outcome}
 use Rattle.cx_hart.specs.Stretches.{IsWritable}
-use Rattle.cx_hart.specs.Transfers.{Transfer, after_transfers, memory_after_transfer, state_after_transfer, with_lines}
+use Rattle.cx_ram.specs.Transfers.{Transfer}
+use Rattle.cx_hart.specs.Transfers.{after_transfers, memory_after_transfer, state_after_transfer, with_lines}
 use Rattle.cx_hart.specs.Turn.{turn}
 use Rattle.cx_hart.specs.declared.answer.Due.{Due}
 use Rattle.cx_hart.specs.declared.record.StepRec.{StepRec}

@@ -3,7 +3,8 @@ use Rattle.std.specs.Prelude.{◌≡◌, ℕ, ◌+◌, ◌*◌, ◌^◌, ◌<◌
 use Rattle.cx_csr.specs.Keeps.{Keeps}
 use Rattle.cx_csr.specs.Rules.{IsWithin}
 use Rattle.cx_hart.specs.Machine.{MachineState}
-use Rattle.cx_hart.specs.Transfers.{Transfer, with_lines}
+use Rattle.cx_ram.specs.Transfers.{Transfer}
+use Rattle.cx_hart.specs.Transfers.{with_lines}
 use Rattle.cx_hart.specs.declared.answer.Due.{Due}
 
 abbrev pub AreBytes : List ℕ → Type 0

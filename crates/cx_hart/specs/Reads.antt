@@ -1,5 +1,6 @@
 -- Which bytes of RAM a step reads, by its record, and what a step may make of them.
-use Rattle.std.specs.Prelude.{◌≡◌, ◌⊎◌, ℕ, zero, suc, ◌+◌, ◌-◌, ◌^◌, nat_le, if◌then◌else◌, List, [], ◌∷◌, ◌++◌, take, length, All, slice_index, Option, None, Some}
+use Rattle.std.specs.Prelude.{◌≡◌, ℕ, zero, suc, ◌+◌, ◌-◌, ◌^◌, nat_le, if◌then◌else◌, List, [], ◌∷◌, ◌++◌, take, length, Option, None, Some}
+use Rattle.cx_ram.specs.Agreement.{SameWrites}
 use Rattle.cx_hart.specs.Machine.{MachineState}
 use Rattle.cx_hart.specs.Step.{Outcome, Stepped}
 use Rattle.cx_hart.specs.declared.record.StepRec.{StepRec}
@@ -26,14 +27,6 @@ entry_indices (place ∷ places) = ram_indices place 4 ++ entry_indices places
 unfoldable pub read_indices : StepRec → List ℕ
 read_indices r =
     touch_indices r.fetch ++ (touch_indices r.read ++ (touch_indices r.read_more ++ entry_indices (take r.walked r.places)))
-
--- The two memories have the same bytes at these indices.
-abbrev pub AgreeOn : List ℕ → List ℕ → List ℕ → Type 0
-AgreeOn indices p q = All (λ i. slice_index p i ≡ slice_index q i) indices
-
--- Each byte has the same new value in both memories, or is unchanged in both.
-abbrev pub SameWrites : List ℕ → List ℕ → List ℕ → List ℕ → Type 0
-SameWrites p p' q q' = (i : ℕ) → (slice_index p' i ≡ slice_index q' i) ⊎ ((slice_index p' i ≡ slice_index p i) × (slice_index q' i ≡ slice_index q i))
 
 -- On another memory the step gave the same record and the same next state, and wrote the same bytes.
 pub record IsSameStep (p : List ℕ) (after : MachineState) (rec : StepRec) (q : List ℕ) (outcome : Outcome) : Type 0 where

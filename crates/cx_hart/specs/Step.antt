@@ -5,7 +5,8 @@ use Rattle.cx_hart.specs.After.{after_retired, after_trap, interrupt_cause, memo
 use Rattle.cx_hart.specs.Machine.{MachineState}
 use Rattle.cx_hart.specs.Phases.{Phase}
 use Rattle.cx_hart.specs.Records.{fetch_of_step, record_of, record_of_retired}
-use Rattle.cx_hart.specs.Transfers.{Transfer, after_transfers, with_lines}
+use Rattle.cx_ram.specs.Transfers.{Transfer}
+use Rattle.cx_hart.specs.Transfers.{after_transfers, with_lines}
 use Rattle.cx_hart.specs.Turn.{turn}
 use Rattle.cx_hart.specs.Walked.{places_of_step}
 use Rattle.cx_hart.specs.declared.answer.Asked.{Asked}

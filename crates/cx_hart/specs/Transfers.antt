@@ -4,12 +4,8 @@ use Rattle.cx_csr.specs.declared.state.State.{State}
 use Rattle.cx_csr.specs.declared.lines.Lines.{Lines}
 use Rattle.cx_ram.specs.LittleEndian.{written}
 use Rattle.cx_ram.specs.PhysicalMemory.{ram_index}
+use Rattle.cx_ram.specs.Transfers.{Transfer}
 use Rattle.cx_hart.specs.Machine.{MachineState}
-
--- bytes that a device writes to RAM from a place on
-pub record Transfer : Type 0 where
-  pub place : ℕ
-  pub bytes : List ℕ
 
 -- the bytes from a place on and those of the reserved word have one in common
 abbrev pub overlaps : ℕ → ℕ → ℕ → Bool

@@ -43,7 +43,7 @@ fn walked(
 /// Whether an access isn't translated, and all of its bytes are in RAM: a walk reads no entry then, and gives its address.
 #[inline(always)]
 #[tactic(auto, using(crate::proofs::BareWalks::bare_walk))]
-fn is_plain(ram: &Ram, state: &State, kind: Kind, va: u32, len: u8) -> bool
+fn is_direct(ram: &Ram, state: &State, kind: Kind, va: u32, len: u8) -> bool
     ensures { IsTrue result → walk_in ram.now.memory state.now kind va len ≡ bare_walk va }
 {
     let _ = ram.pages();
@@ -68,7 +68,7 @@ pub(crate) fn translated(
     ensures sights { Noted ram.now.memory sights.old sights.new (places_of (walk_in ram.now.memory state.now kind va len)) }
     ensures room { length sights.new.places ≤ length sights.old.places + 2 }
 {
-    if is_plain(ram, state, kind, va, len) {
+    if is_direct(ram, state, kind, va, len) {
         return Ok(Place::Ram(va));
     }
     walked(ram, state, kind, va, len, sights)

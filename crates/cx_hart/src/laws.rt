@@ -4,9 +4,11 @@ ghost use Rattle.std.specs.Prelude.{◌≡◌, ℕ, ◌*◌, Bool, List, [], ◌
 ghost use Rattle.cx_csr.specs.declared.state.State.{State};
 ghost use Rattle.cx_hart.specs.Kept.{AreTransfers, IsDue, IsKept, IsKeptBehind};
 ghost use Rattle.cx_hart.specs.Machine.{MachineState};
-ghost use Rattle.cx_hart.specs.Reads.{AgreeOn, IsSameStep, read_indices};
+ghost use Rattle.cx_ram.specs.Agreement.{AgreeOn};
+ghost use Rattle.cx_hart.specs.Reads.{IsSameStep, read_indices};
 ghost use Rattle.cx_hart.specs.Step.{Stepped, step, step_in};
-ghost use Rattle.cx_hart.specs.Transfers.{Transfer, after_transfers, with_lines};
+ghost use Rattle.cx_ram.specs.Transfers.{Transfer};
+ghost use Rattle.cx_hart.specs.Transfers.{after_transfers, with_lines};
 ghost use Rattle.cx_hart.specs.declared.answer.Due.{Due};
 ghost use Rattle.cx_hart.specs.declared.record.StepRec.{StepRec};
 

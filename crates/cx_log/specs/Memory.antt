@@ -1,18 +1,10 @@
 -- Physical memory as a flat list of bytes, in pages of 4,096. RAM begins at place 2^31, so place p is index p - 2^31.
-use Rattle.std.specs.Prelude.{◌≡◌, ℕ, ◌+◌, ◌*◌, ◌^◌, ◌<◌, ◌==◌, Bool, List, ◌++◌, length, take, drop, All}
+use Rattle.std.specs.Prelude.{◌≡◌, ℕ, ◌*◌, ◌^◌, ◌<◌, ◌==◌, Bool, List, length, All}
 use Rattle.std.specs.List.{list_all}
 
 -- the place of the first byte of RAM
 abbrev pub ram_base : ℕ
 ram_base = 2 ^ 31
-
--- the bytes of one page
-abbrev pub page_of : List ℕ → ℕ → List ℕ
-page_of memory number = take 4096 (drop (number * 4096) memory)
-
--- the memory with these bytes from an index on
-abbrev pub written_at : List ℕ → ℕ → List ℕ → List ℕ
-written_at memory index bytes = take index memory ++ bytes ++ drop (index + length bytes) memory
 
 abbrev pub is_zero : List ℕ → Bool
 is_zero bytes = list_all (λ b. b == 0) bytes

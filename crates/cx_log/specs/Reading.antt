@@ -5,7 +5,8 @@ use Rattle.cx_csr.specs.Rules.{admits, rule_at}
 use Rattle.cx_csr.specs.Words.{state_of}
 use Rattle.cx_codec.specs.Place.{Reader, ◌>>=◌, done, here, bad}
 use Rattle.cx_codec.specs.Fields.{bytes_at, byte_at, word_at, varint_at}
-use Rattle.cx_log.specs.Memory.{written_at, is_zero}
+use Rattle.cx_ram.specs.LittleEndian.{written}
+use Rattle.cx_log.specs.Memory.{is_zero}
 use Rattle.cx_log.specs.Order.{next_mark}
 use Rattle.cx_log.specs.declared.header.Header.{Header}
 
@@ -70,7 +71,7 @@ abbrev pub pages_at : ℕ → ℕ → ℕ → List ℕ → Reader (List ℕ)
 pages_at pages zero least memory = done memory
 pages_at pages (suc left) least memory = do
   page ← page_at pages least
-  pages_at pages left (page.number + 1) (written_at memory (page.number * 4096) page.bytes)
+  pages_at pages left (page.number + 1) (written memory (page.number * 4096) page.bytes)
 
 -- The records take at most 2^40 bytes: from here on no field passes that.
 abbrev pub begin_records : Reader (Unit {0})

@@ -5,7 +5,8 @@ use Rattle.std.specs.List.{flat_map}
 use Rattle.cx_csr.specs.declared.state.State.{State}
 use Rattle.cx_csr.specs.Words.{words_of}
 use Rattle.cx_codec.specs.Varint.{varint}
-use Rattle.cx_log.specs.Memory.{page_of, is_zero}
+use Rattle.cx_ram.specs.PhysicalMemory.{page_of}
+use Rattle.cx_log.specs.Memory.{is_zero}
 use Rattle.cx_log.specs.Recording.{Event, Mark, Dma, Lines, Value, Recorded, Recording}
 
 -- the four bytes that a recording begins with

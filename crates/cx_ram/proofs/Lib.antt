@@ -2,3 +2,4 @@ pub mod Loads
 pub mod LoadsAndWrites
 pub mod Pages
 pub mod Writes
+pub mod SameWrites

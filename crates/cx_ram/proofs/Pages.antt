@@ -9,19 +9,18 @@ use Rattle.cx_ram.proofs.LoadsAndWrites.{length-written, slice_index-written_out
 
 pub page_of-written : (m : List ℕ) (page : ℕ) (bytes : List ℕ) → IsPage m page → length bytes ≡ 4096
     → page_of (written m (4096 * page) bytes) page ≡ bytes
-unfolding page_of written
+unfolding written
 page_of-written m page bytes there whole =
+    let place : page * 4096 ≡ 4096 * page = omega arith in
     let front : length (take (4096 * page) m) ≡ 4096 * page = omega (arith, length-take (4096 * page) m) in
-    rw (drop_at (take (4096 * page) m) (bytes ++ drop (4096 * page + length bytes) m) (4096 * page) front)
+    rw (place, drop_at (take (4096 * page) m) (bytes ++ drop (4096 * page + length bytes) m) (4096 * page) front)
     (take_at bytes (drop (4096 * page + length bytes) m) 4096 whole)
 
 pub slice_index-page_of : (m : List ℕ) (page k : ℕ) → k < 4096 → slice_index (page_of m page) k ≡ slice_index m (4096 * page + k)
-unfolding page_of
-slice_index-page_of m page k within = get_or-take 4096 (drop (4096 * page) m) k 0 within ∙ get_or-drop (4096 * page) m k 0
+slice_index-page_of m page k within = let place : page * 4096 ≡ 4096 * page = omega arith in rw place (get_or-take 4096 (drop (4096 * page) m) k 0 within ∙ get_or-drop (4096 * page) m k 0)
 
 length-page_of : (m : List ℕ) (page : ℕ) → length (page_of m page) ≡ min 4096 (length m - 4096 * page)
-unfolding page_of
-length-page_of m page = length-take 4096 (drop (4096 * page) m) ∙ ap (min 4096) (length-drop (4096 * page) m)
+length-page_of m page = let place : page * 4096 ≡ 4096 * page = omega arith in rw place (length-take 4096 (drop (4096 * page) m) ∙ ap (min 4096) (length-drop (4096 * page) m))
 
 -- A byte of another page lies before a page or after it.
 outside_page : (page other k : ℕ) → other ≢ page → k < 4096 → (4096 * other + k < 4096 * page) ⊎ (4096 * page + 4096 ≤ 4096 * other + k)

@@ -1,2 +1,4 @@
 pub mod LittleEndian
 pub mod PhysicalMemory
+pub mod Transfers
+pub mod Agreement

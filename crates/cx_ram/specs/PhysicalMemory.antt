@@ -27,5 +27,5 @@ abbrev pub IsPage : List ℕ → ℕ → Type 0
 IsPage memory page = 4096 * page + 4096 ≤ length memory
 
 -- The bytes of a page.
-unfoldable pub page_of : List ℕ → ℕ → List ℕ
-page_of memory page = take 4096 (drop (4096 * page) memory)
+abbrev pub page_of : List ℕ → ℕ → List ℕ
+page_of memory page = take 4096 (drop (page * 4096) memory)

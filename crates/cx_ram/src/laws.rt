@@ -1,6 +1,7 @@
 //! Laws of loads and of writes on a flat list of bytes, for the layers that reason about memory.
 
 ghost use Rattle.std.specs.Prelude.{◌≡◌, ◌≢◌, ◌⊎◌, ℕ, ◌+◌, ◌*◌, ◌%◌, ◌^◌, ◌<◌, ◌≤◌, List, length, slice_index};
+ghost use Rattle.cx_ram.specs.Agreement.{AgreeOn, SameWrites};
 ghost use Rattle.cx_ram.specs.LittleEndian.{loaded, low_bytes, stored, written};
 ghost use Rattle.cx_ram.specs.PhysicalMemory.{IsPage, page_of};
 
@@ -58,4 +59,13 @@ pub fn page_after_write()
 /// The bytes of a page are those of the memory from its first place on.
 pub fn page_is_its_bytes()
     ensures { (m : List ℕ) (page k : ℕ) → k < 4096 → slice_index (page_of m page) k ≡ slice_index m (4096 * page + k) }
+{}
+
+/// The same bytes written at one index of two memories of one length are the same writes, wherever the index is. So are no
+/// writes, and the same writes one after another. Memories that agree go on to agree behind them.
+pub fn memories_are_written_alike()
+    ensures none { (p q : List ℕ) → SameWrites p p q q }
+    ensures bytes { (p q : List ℕ) (i : ℕ) (bytes : List ℕ) → length q ≡ length p → SameWrites p (written p i bytes) q (written q i bytes) }
+    ensures more { (p p1 p2 q q1 q2 : List ℕ) → SameWrites p p1 q q1 → SameWrites p1 p2 q1 q2 → SameWrites p p2 q q2 }
+    ensures agree { (indices p p1 q q1 : List ℕ) → SameWrites p p1 q q1 → AgreeOn indices p q → AgreeOn indices p1 q1 }
 {}

@@ -11,7 +11,8 @@ mod ram;
 mod tests;
 
 pub use laws::{
-    load_after_store, load_after_write, load_fits, load_reads_its_bytes, page_after_write,
-    page_is_its_bytes, store_changes_its_bytes, write_changes_its_bytes,
+    load_after_store, load_after_write, load_fits, load_reads_its_bytes,
+    memories_are_written_alike, page_after_write, page_is_its_bytes, store_changes_its_bytes,
+    write_changes_its_bytes,
 };
 pub use ram::{NoMemory, Ram};

@@ -1,5 +1,5 @@
 -- What recordings say of bytes and events, as the step of the hart asks for it.
-use Rattle.std.proofs.Common.{◌≡◌, ℕ, ◌*◌, ◌<◌, List, [], ◌∷◌, length, map, All, Option, None, Some, IfSome, inl, inr, refl, arith}
+use Rattle.std.proofs.Common.{◌≡◌, ℕ, ◌*◌, ◌<◌, List, [], ◌∷◌, length, All, Option, None, Some, IfSome, inl, inr, refl, arith}
 use Rattle.std.proofs.lemmas.Bool.{cases_lt}
 use Rattle.std.proofs.lemmas.List.{get_or_past}
 use Rattle.std.proofs.lemmas.List.Elements.{All-from_get_or, All-head, All-tail}
@@ -10,8 +10,9 @@ use Rattle.cx_hart.specs.Kept.{AreBytes, AreTransfers, IsDue, IsTransfer}
 use Rattle.cx_hart.specs.Transfers.{with_lines}
 use Rattle.cx_log.specs.Order.{HoldsWell}
 use Rattle.cx_log.specs.Recording.{Dma}
-use Rattle.cx_run.specs.Due.{Due, IsWellDue, LieInRam, Transfer}
-use Rattle.cx_replay.specs.HartStep.{due_of, lines_of, transfer_of}
+use Rattle.cx_ram.specs.Transfers.{Transfer}
+use Rattle.cx_run.specs.Due.{Due, IsWellDue, LieInRam}
+use Rattle.cx_replay.specs.HartStep.{due_of, lines_of}
 
 -- ---- bytes
 
@@ -23,10 +24,10 @@ bytes_of_index xs bytes = All-from_get_or (λ b. b < 256) xs 0 (λ i here. bytes
 
 -- ---- transfers
 
-transfer_fits : (pages : ℕ) (t : Transfer) → HoldsWell pages 0 (Dma t.place t.bytes) → IsTransfer (4096 * pages) (transfer_of t)
+transfer_fits : (pages : ℕ) (t : Transfer) → HoldsWell pages 0 (Dma t.place t.bytes) → IsTransfer (4096 * pages) t
 transfer_fits pages t well = record { low = well.0; high = omega (arith, well.3); bytes = bytes_by_index t.bytes well.4 }
 
-pub transfers_fit : (pages : ℕ) (ts : List Transfer) → LieInRam pages ts → AreTransfers (4096 * pages) (map transfer_of ts)
+pub transfers_fit : (pages : ℕ) (ts : List Transfer) → LieInRam pages ts → AreTransfers (4096 * pages) ts
 transfers_fit pages [] well = tt
 transfers_fit pages (t ∷ ts) well = (
   transfer_fits pages t (All-head (λ (s : Transfer). HoldsWell pages 0 (Dma s.place s.bytes)) t ts well),

@@ -1,16 +1,11 @@
 -- The step of the hart over what the events of a recording hand to it.
-use Rattle.std.specs.Prelude.{ℕ, Bool, false, map, Option, None, Some}
+use Rattle.std.specs.Prelude.{ℕ, Bool, false, Option, None, Some}
 use Rattle.cx_csr.specs.declared.lines.Lines.{Lines}
 use Rattle.cx_hart.specs.Step.{Outcome, NeedsValue, ValueLeft, Stepped as Carried, step}
-use Rattle.cx_hart.specs.Transfers.{Transfer}
 use Rattle.cx_hart.specs.declared.answer.Due.{Due}
 use Rattle.cx_hart.specs.declared.record.StepRec.{StepRec}
-use Rattle.cx_run.specs.Due.{Due as Events, Transfer as Dma}
+use Rattle.cx_run.specs.Due.{Due as Events}
 use Rattle.cx_run.specs.Run.{Step, Stepped}
-
--- the bytes of a device
-abbrev pub transfer_of : Dma → Transfer
-transfer_of t = record { place = t.place; bytes = t.bytes }
 
 abbrev pub lines_of : Option ℕ → Option Lines
 lines_of None = None
@@ -29,7 +24,7 @@ carried_out (Carried after rec) = Some (record { machine = record { state = afte
 -- The step; split says whether misaligned loads and stores are carried out.
 unfoldable pub hart_step : Bool → Step StepRec
 hart_step split m events =
-    carried_out (step split (map transfer_of events.transfers) (due_of events) (record { state = m.state; memory = m.memory }))
+    carried_out (step split events.transfers (due_of events) (record { state = m.state; memory = m.memory }))
 
 -- The step by which recordings of this format are run: misaligned loads and stores trap.
 abbrev pub replay_step : Step StepRec

@@ -9,7 +9,8 @@ use Rattle.cx_log.specs.Order.{KeepsRules}
 use Rattle.cx_run.specs.Machine.{Machine}
 use Rattle.cx_run.specs.Due.{Due, due_at, IsWellDue}
 use Rattle.cx_run.specs.Run.{Step, Stepped, Run, run_of}
-use Rattle.cx_run.specs.Frame.{AgreeOn, SameWrites, IsSameStep, ReadsItsRecord}
+use Rattle.cx_ram.specs.Agreement.{AgreeOn, SameWrites}
+use Rattle.cx_run.specs.Frame.{IsSameStep, ReadsItsRecord}
 use Rattle.cx_run.specs.Window.{any_in_page, is_read, kept_pages, window_from, IsWindow}
 use Rattle.cx_run.specs.Alone.{AgreeOnPages, RunsAlone}
 use Rattle.cx_run.proofs.Runs.{GoesOn, run_of-before, run_of-last, run_of-next, BeginsWith, run_of-begins, length-records}

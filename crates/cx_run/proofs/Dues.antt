@@ -3,7 +3,8 @@ use Rattle.std.proofs.Common.{ℕ, List, [], ◌∷◌, ◌==◌, Bool, true, fa
 use Rattle.std.proofs.lemmas.List.Elements.{All-nil, All-cons}
 use Rattle.cx_log.specs.Recording.{Event, Mark, Dma, Lines, Value, Recorded, Recording}
 use Rattle.cx_log.specs.Order.{HoldsWell, Behind, InOrder, at_start, behind_it, KeepsRules}
-use Rattle.cx_run.specs.Due.{Transfer, Due, nothing_due, with_event, due_at, IsWellDue}
+use Rattle.cx_ram.specs.Transfers.{Transfer}
+use Rattle.cx_run.specs.Due.{Due, nothing_due, with_event, due_at, IsWellDue}
 
 well_with : (pages lines : ℕ) (event : Event) (due : Due) → HoldsWell pages lines event → IsWellDue pages due → IsWellDue pages (with_event event due)
 well_with pages lines Mark due holds well = well

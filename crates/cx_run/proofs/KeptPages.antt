@@ -3,7 +3,8 @@ use Rattle.std.proofs.Common.{◌≡◌, ℕ, zero, suc, ◌+◌, ◌-◌, ◌*�
 use Rattle.std.proofs.lemmas.List.{length-append, length-replicate, length-take, length-take-le, length-drop, ext_get_or, drop_at, take_all, drop-append-le, take-append-le, get_or_append_left, get_or-append_right, get_or-take, get_or-drop}
 use Rattle.std.proofs.lemmas.List.Elements.{All-append, All-take, All-drop, All-replicate, All-nil}
 use Rattle.std.proofs.lemmas.Bool.{cases_lt}
-use Rattle.cx_log.specs.Memory.{page_of, IsMemory}
+use Rattle.cx_ram.specs.PhysicalMemory.{page_of}
+use Rattle.cx_log.specs.Memory.{IsMemory}
 use Rattle.cx_run.specs.Window.{kept_pages}
 
 pub length-page_of : (memory : List ℕ) (k : ℕ) → suc k * 4096 ≤ length memory → length (page_of memory k) ≡ 4096

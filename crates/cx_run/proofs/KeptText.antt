@@ -1,6 +1,7 @@
 -- The text of the memory on the pages that are kept.
 use Rattle.std.proofs.Common.{◌≡◌, ℕ, zero, suc, ◌+◌, ◌*◌, ◌<◌, ◌≤◌, List, [], ◌++◌, length, replicate, Bool, true, false, if◌then◌else◌, refl, add-one}
-use Rattle.cx_log.specs.Memory.{page_of, is_zero}
+use Rattle.cx_ram.specs.PhysicalMemory.{page_of}
+use Rattle.cx_log.specs.Memory.{is_zero}
 use Rattle.cx_log.specs.Text.{page_text, page_count, pages_text}
 use Rattle.cx_run.specs.Window.{kept_pages}
 use Rattle.cx_run.proofs.KeptPages.{page_of-kept_pages}

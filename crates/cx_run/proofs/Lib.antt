@@ -1,7 +1,6 @@
 pub mod Runs
 pub mod BuiltSteps
 pub mod PagesRead
-pub mod Frames
 pub mod Received
 pub mod KeptPages
 pub mod KeptText

@@ -2,7 +2,7 @@
 use Rattle.std.proofs.Common.{◌≡◌, ℕ, ◌+◌, ◌-◌, ◌<◌, ◌≤◌, List, ◌++◌, length, drop, Bool, true, Some, refl, sym, ap, subst, ◌∙◌, arith}
 use Rattle.std.proofs.lemmas.List.{drop-drop}
 use Rattle.std.proofs.lemmas.Option.{same_Some}
-use Rattle.cx_log.specs.Memory.{page_of}
+use Rattle.cx_ram.specs.PhysicalMemory.{page_of}
 use Rattle.cx_log.specs.Recording.{Recording}
 use Rattle.cx_log.specs.Order.{KeepsRules}
 use Rattle.cx_run.specs.Machine.{Machine}

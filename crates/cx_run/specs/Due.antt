@@ -1,14 +1,11 @@
 -- What the events of one step hand to it.
-use Rattle.std.specs.Prelude.{ℕ, ◌-◌, ◌==◌, ◌^◌, ◌<◌, List, [], ◌∷◌, All, Option, None, Some, IfSome, if◌then◌else◌}
+use Rattle.std.specs.Prelude.{ℕ, ◌==◌, ◌^◌, ◌<◌, List, [], ◌∷◌, All, Option, None, Some, IfSome, if◌then◌else◌}
 use Rattle.cx_csr.specs.Rules.{IsWithin}
-use Rattle.cx_log.specs.Memory.{ram_base, written_at}
+use Rattle.cx_ram.specs.LittleEndian.{written}
+use Rattle.cx_ram.specs.PhysicalMemory.{ram_index}
+use Rattle.cx_ram.specs.Transfers.{Transfer}
 use Rattle.cx_log.specs.Recording.{Event, Mark, Dma, Lines, Value, Recorded}
 use Rattle.cx_log.specs.Order.{HoldsWell}
-
--- bytes that a device writes to RAM
-pub record Transfer : Type 0 where
-  pub place : ℕ
-  pub bytes : List ℕ
 
 pub record Due : Type 0 where
   pub transfers : List Transfer
@@ -42,4 +39,4 @@ pub record IsWellDue (pages : ℕ) (due : Due) : Type 0 where
 -- the memory behind the transfers that are due, one after the other
 abbrev pub received : List ℕ → List Transfer → List ℕ
 received memory [] = memory
-received memory (t ∷ transfers) = received (written_at memory (t.place - ram_base) t.bytes) transfers
+received memory (t ∷ transfers) = received (written memory (ram_index t.place) t.bytes) transfers

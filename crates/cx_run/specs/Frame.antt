@@ -1,18 +1,11 @@
 -- What a step may depend on, and what it may change.
-use Rattle.std.specs.Prelude.{◌≡◌, ℕ, ◌*◌, ◌⊎◌, List, length, All, slice_index, Option, Some, unwrap_or}
+use Rattle.std.specs.Prelude.{◌≡◌, ℕ, ◌*◌, List, length, Option, Some, unwrap_or}
 use Rattle.cx_csr.specs.Keeps.{Keeps}
+use Rattle.cx_ram.specs.Agreement.{AgreeOn, SameWrites}
 use Rattle.cx_log.specs.Memory.{IsMemory}
 use Rattle.cx_run.specs.Machine.{Machine}
 use Rattle.cx_run.specs.Due.{Due, IsWellDue}
 use Rattle.cx_run.specs.Run.{Step, Stepped}
-
--- two memories agree on the bytes at these indices
-abbrev pub AgreeOn : List ℕ → List ℕ → List ℕ → Type 0
-AgreeOn indices p q = All (λ i. slice_index p i ≡ slice_index q i) indices
-
--- each byte is written with one value in both memories, or in neither
-abbrev pub SameWrites : List ℕ → List ℕ → List ℕ → List ℕ → Type 0
-SameWrites p p' q q' = (i : ℕ) → (slice_index p' i ≡ slice_index q' i) ⊎ ((slice_index p' i ≡ slice_index p i) × (slice_index q' i ≡ slice_index q i))
 
 -- A step reads nothing but what its record names: on another memory of the same size that agrees there, it gives the
 -- same record and the same next state, and writes the same bytes.

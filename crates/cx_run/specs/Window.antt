@@ -1,7 +1,7 @@
 -- A window of a recording: the steps from one up to another, with the pages that they read.
 use Rattle.std.specs.Prelude.{◌≡◌, ℕ, zero, suc, ◌-◌, ◌/◌, ◌<◌, ◌≤◌, nat_lt, nat_le, ◌==◌, ◌&&◌, Bool, true, false, List, [], ◌++◌, replicate, drop, filter, Some, if◌then◌else◌, not}
 use Rattle.std.specs.List.{list_any}
-use Rattle.cx_log.specs.Memory.{page_of}
+use Rattle.cx_ram.specs.PhysicalMemory.{page_of}
 use Rattle.cx_log.specs.Recording.{Event, Mark, Recorded, Recording}
 use Rattle.cx_run.specs.Run.{Step, Run, run_of}
 

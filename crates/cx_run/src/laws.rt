@@ -2,12 +2,15 @@
 
 ghost use Rattle.std.specs.Prelude.{◌≡◌, ◌↔◌, ℕ, suc, ◌+◌, ◌-◌, ◌*◌, ◌<◌, ◌≤◌, Bool, ◌||◌, false, List, [], ◌∷◌, ◌++◌, length, take, drop, replicate, Option, None, Some, IsSome, IsSomeAnd, if◌then◌else◌};
 ghost use Rattle.cx_log.specs.Recording.{Recording};
-ghost use Rattle.cx_log.specs.Memory.{page_of, is_zero, IsMemory};
+ghost use Rattle.cx_ram.specs.PhysicalMemory.{page_of};
+ghost use Rattle.cx_log.specs.Memory.{is_zero, IsMemory};
 ghost use Rattle.cx_log.specs.Text.{page_text, page_count, pages_text};
 ghost use Rattle.cx_log.specs.Order.{KeepsRules};
-ghost use Rattle.cx_run.specs.Due.{Transfer, LieInRam, due_at, received};
+ghost use Rattle.cx_ram.specs.Transfers.{Transfer};
+ghost use Rattle.cx_run.specs.Due.{LieInRam, due_at, received};
 ghost use Rattle.cx_run.specs.Run.{Step, Run, run_of, built_steps, Accepts};
-ghost use Rattle.cx_run.specs.Frame.{SameWrites, ReadsItsRecord, KeepsMachine, SetsLines};
+ghost use Rattle.cx_ram.specs.Agreement.{SameWrites};
+ghost use Rattle.cx_run.specs.Frame.{ReadsItsRecord, KeepsMachine, SetsLines};
 ghost use Rattle.cx_run.specs.Window.{any_in_page, is_read, kept_pages, IsWindow};
 ghost use Rattle.cx_run.specs.Alone.{RunsAlone};
 

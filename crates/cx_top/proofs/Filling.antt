@@ -1,13 +1,12 @@
 -- Pages of a recording, read one after another into a machine's memory.
-use Rattle.std.proofs.Common.{◌≡◌, ℕ, zero, suc, ◌+◌, ◌-◌, ◌*◌, ◌<◌, List, ◌++◌, length, take, drop, Option, None, Some, Result, Ok, Err, arith, refl, ap, sym, ◌∙◌, append_assoc}
+use Rattle.std.proofs.Common.{◌≡◌, ℕ, zero, suc, ◌+◌, ◌-◌, ◌*◌, ◌<◌, List, Option, None, Some, Result, Ok, Err, arith, refl, ap, ◌∙◌}
 use Rattle.cx_codec.specs.Place.{Place, FailsAt, read_on}
-use Rattle.cx_log.specs.Memory.{written_at}
 use Rattle.cx_log.specs.Reading.{Page, next_page_at, page_at, pages_at}
 use Rattle.cx_ram.specs.LittleEndian.{written}
 
 -- the next page, and then the others
 pages_step : (pages left least : ℕ) (memory : List ℕ) (here : Place) → 0 < left
-    → pages_at pages left least memory here ≡ read_on (page_at pages least here) (λ page. pages_at pages (left - 1) (page.number + 1) (written_at memory (page.number * 4096) page.bytes))
+    → pages_at pages left least memory here ≡ read_on (page_at pages least here) (λ page. pages_at pages (left - 1) (page.number + 1) (written memory (page.number * 4096) page.bytes))
 pages_step pages zero least memory here some = absurd (omega arith)
 pages_step pages (suc left) least memory here some = let e : suc left - 1 ≡ left = omega arith in rw e refl
 
@@ -30,11 +29,10 @@ next_is_page pages (suc left) least here page after some e = some_page (page_at 
 pub filled : (pages left left' least least' number : ℕ) (memory memory' bytes : List ℕ) (here after : Place) → left' + 1 ≡ left → least' ≡ number + 1
     → next_page_at pages left least here ≡ Ok (Some (record { number = number; bytes = bytes }), after) → memory' ≡ written memory (4096 * number) bytes
     → pages_at pages left least memory here ≡ pages_at pages left' least' memory' after
-unfolding written
 filled pages left left' least least' number memory memory' bytes here after fewer next read put =
     let place : 4096 * number ≡ number * 4096 = omega arith in
     let page = next_is_page pages left least here (record { number = number; bytes = bytes }) after (omega (arith, fewer)) read in
-    let there : memory' ≡ written_at memory (number * 4096) bytes = put ∙ ap (λ i. take i memory ++ (bytes ++ drop (i + length bytes) memory)) place ∙ sym (append_assoc (take (number * 4096) memory) bytes (drop (number * 4096 + length bytes) memory)) in
+    let there : memory' ≡ written memory (number * 4096) bytes = put ∙ ap (λ i. written memory i bytes) place in
     let less : left - 1 ≡ left' = omega (arith, fewer) in
     pages_step pages left least memory here (omega (arith, fewer)) ∙ rw (page, less, next, there) refl
 

@@ -5,8 +5,6 @@ use Rattle.cx_ram.specs.PhysicalMemory.{page_of}
 
 -- one page more
 pub page_more : (memory copied page next : List ℕ) (n : ℕ) → next ≡ copied ++ page → copied ≡ take (n * 4096) memory → page ≡ page_of memory n → next ≡ take ((n + 1) * 4096) memory
-unfolding page_of
 page_more memory copied page next n is so_far the_page =
     let longer : (n + 1) * 4096 ≡ n * 4096 + 4096 = omega arith in
-    let place : 4096 * n ≡ n * 4096 = omega arith in
-    rw (is, so_far, the_page, place, longer, take-add) refl
+    rw (is, so_far, the_page, longer, take-add) refl

@@ -1,7 +1,8 @@
 -- The pages of a slice that are written.
 use Rattle.std.proofs.Common.{◌≡◌, ℕ, zero, suc, ◌+◌, ◌<◌, ◌≤◌, Bool, true, false, not, ◌&&◌, if◌then◌else◌, Option, List, [], ◌++◌, get_or, inl, inr, arith, refl, ◌∙◌}
 use Rattle.std.proofs.lemmas.Bool.{cases_lt}
-use Rattle.cx_log.specs.Memory.{page_of, is_zero}
+use Rattle.cx_ram.specs.PhysicalMemory.{page_of}
+use Rattle.cx_log.specs.Memory.{is_zero}
 use Rattle.cx_codec.specs.Blocks.{HasFront}
 use Rattle.cx_log.specs.Text.{recording_text, header_text, end_text, page_text, page_count, pages_text}
 use Rattle.cx_log.proofs.Puts.{front_first, front_next}

@@ -4,7 +4,8 @@ ghost use Rattle.std.specs.Prelude.{◌≡◌, ℕ, ◌+◌, ◌*◌, ◌^◌, �
 ghost use Rattle.std.specs.Io.KnownBytes.{Appends};
 ghost use Rattle.cx_io.specs.Cause.{HasCause};
 ghost use Rattle.cx_codec.specs.Blocks.{HasFront, StandsFor};
-ghost use Rattle.cx_log.specs.Memory.{is_zero, page_of};
+ghost use Rattle.cx_ram.specs.PhysicalMemory.{page_of};
+ghost use Rattle.cx_log.specs.Memory.{is_zero};
 ghost use Rattle.cx_log.specs.Recording.{Recording};
 ghost use Rattle.cx_log.specs.Text.{recording_text, page_count, page_text, pages_text};
 

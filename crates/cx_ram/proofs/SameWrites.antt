@@ -4,7 +4,7 @@ use borrow.Author.Tests.{leb-false, leb-true, ltb-false, ltb-true}
 use Rattle.std.specs.Prelude.{slice_index}
 use Rattle.std.proofs.lemmas.List.{get_or-append-add, get_or-drop, get_or-take, get_or_append_left, get_or_past, length-take}
 use Rattle.cx_ram.specs.LittleEndian.{written}
-use Rattle.cx_hart.specs.Reads.{AgreeOn, SameWrites}
+use Rattle.cx_ram.specs.Agreement.{AgreeOn, SameWrites}
 
 -- ---- a byte of a memory that was written, wherever the write is
 

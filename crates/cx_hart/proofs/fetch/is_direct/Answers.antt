@@ -1,7 +1,7 @@
 use Rattle.std.proofs.Common.{◌∙◌, sym, ℕ, subst}
 use Rattle.cx_ram.specs.PhysicalMemory.{IsInRam}
 use Rattle.cx_hart.proofs.BareWalks.{bare_walk}
-use Rattle.cx_hart.proofs.fetch.is_plain.Goals as goal
+use Rattle.cx_hart.proofs.fetch.is_direct.Goals as goal
 
 pub returns-then-is_bare : goal.returns-then-is_bare
 returns-then-is_bare c inside =
