@@ -9,7 +9,7 @@ mod buffer;
 mod bytes;
 mod fault;
 mod laws;
-mod out;
+mod output;
 #[cfg(test)]
 mod tests;
 mod varint;
@@ -20,4 +20,4 @@ pub use laws::{
     byte_reads_back, bytes_read_back, fronts_of_longer_texts, varint_has_one_spelling,
     varint_reads_back, word_reads_back,
 };
-pub use out::Out;
+pub use output::Out;

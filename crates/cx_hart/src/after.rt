@@ -12,11 +12,8 @@ use crate::record::Touch;
 use crate::turn::{Control, Retired};
 use cx_csr::{State, write};
 use cx_exec::put;
-use cx_ram::Ram;
+use cx_ram::{RAM_START, Ram};
 use cx_trap::{enter, mret, sret};
-
-/// The place of the first byte of RAM.
-const RAM_START: u32 = 0x8000_0000;
 
 /// Takes a trap of this cause.
 #[cold]

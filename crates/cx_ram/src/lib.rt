@@ -15,4 +15,4 @@ pub use laws::{
     memories_are_written_alike, page_after_write, page_is_its_bytes, store_changes_its_bytes,
     write_changes_its_bytes,
 };
-pub use ram::{NoMemory, Ram};
+pub use ram::{NoMemory, RAM_START, Ram};

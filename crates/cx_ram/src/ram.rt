@@ -13,7 +13,7 @@ use std::marker::Model;
 pub struct NoMemory;
 
 /// The place of the first byte of RAM.
-const RAM_START: u32 = 0x8000_0000;
+pub const RAM_START: u32 = 0x8000_0000;
 
 /// The bytes of a page.
 const PAGE_SIZE: usize = 4096;

@@ -7,6 +7,7 @@ use Rattle.cx_hart.specs.declared.record.StepRec.{StepRec}
 use Rattle.cx_run.specs.Due.{Due as Events}
 use Rattle.cx_run.specs.Run.{Step, Stepped}
 
+-- the lines of a mask, where one is due
 abbrev pub lines_of : Option ℕ → Option Lines
 lines_of None = None
 lines_of (Some mask) = Some (record { 0 = mask })

@@ -7,10 +7,8 @@ ghost use Rattle.cx_window.specs.Marks.{AddsMarks};
 use cx_hart::{StepRec, Touch};
 use cx_io::NoMemory;
 use cx_log::PAGE;
+use cx_ram::RAM_START;
 use std::alloc::Global;
-
-/// The place of the first byte of RAM.
-const RAM_START: u32 = 0x8000_0000;
 
 /// A mark for each page, none of them set.
 pub(crate) fn blank(alloc: Global, pages: u32) -> Result<Vec<bool>, NoMemory>

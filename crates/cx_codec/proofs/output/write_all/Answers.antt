@@ -1,7 +1,7 @@
 use Rattle.std.proofs.Common.{arith}
 use Rattle.std.proofs.lemmas.List.{take_rest}
 use Rattle.cx_codec.proofs.Blocks.{appends_more, appends_told}
-use Rattle.cx_codec.proofs.out.write_all.Goals as goal
+use Rattle.cx_codec.proofs.output.write_all.Goals as goal
 
 pub loop-written-preserved : goal.loop-written-preserved
 loop-written-preserved g c = record {

@@ -1,6 +1,6 @@
 use Rattle.std.proofs.Common.{ℕ, List, Option, ◌++◌, length, ◌-◌, ◌^◌, ◌<◌, ◌≤◌, take, IsSome, IsTrue}
 use Rattle.cx_codec.specs.Blocks.{StandsFor}
-use Rattle.cx_codec.proofs.out.Out.put_bytes.Given as goal
+use Rattle.cx_codec.proofs.output.Out.put_bytes.Given as goal
 
 abbrev pub invariant-loop-done : goal.invariant-loop-done
 invariant-loop-done g l =

@@ -1,6 +1,6 @@
 use Rattle.std.proofs.lemmas.Result.{err_from_is_err_and}
 use Rattle.cx_codec.proofs.Blocks.{all_written, finish_front, finish_whole}
-use Rattle.cx_codec.proofs.out.Out.finish.Goals as goal
+use Rattle.cx_codec.proofs.output.Out.finish.Goals as goal
 
 pub returns-in_err-write_all-clause-refused : goal.returns-in_err-write_all-clause-refused
 returns-in_err-write_all-clause-refused g c =

@@ -1,6 +1,6 @@
 use Rattle.std.proofs.Common.{length, ◌-◌, ◌^◌, ◌<◌, ◌≤◌, take, IsSome}
 use Rattle.std.specs.Io.KnownBytes.{Appends}
-use Rattle.cx_codec.proofs.out.write_all.Given as goal
+use Rattle.cx_codec.proofs.output.write_all.Given as goal
 
 abbrev pub invariant-loop-written : goal.invariant-loop-written
 invariant-loop-written g l =

@@ -2,7 +2,7 @@ use Rattle.std.proofs.Common.{arith, ap, ◌∙◌, ◌-◌, length, take, drop,
 use Rattle.std.proofs.lemmas.List.{take_rest, length-take}
 use Rattle.std.proofs.lemmas.Result.{err_from_is_err_and}
 use Rattle.cx_codec.proofs.Blocks.{piece_full, piece_kept, piece_refused}
-use Rattle.cx_codec.proofs.out.Out.put_bytes.Goals as goal
+use Rattle.cx_codec.proofs.output.Out.put_bytes.Goals as goal
 
 pub returns-in_err-fill-clause-refused : goal.returns-in_err-fill-clause-refused
 returns-in_err-fill-clause-refused g c =
