@@ -7,7 +7,7 @@ use crate::mode::Mode;
 use crate::setting::{CODE, CODE_START, LOWER_ENTRY, LOWER_TABLE, PAGES, UPPER_ENTRY, UPPER_TABLE};
 use crate::tally::Tally;
 use cx_csr::State;
-use cx_hart::{Due, Machine, NoMemory, StepAnswer, Steps};
+use cx_hart::{Due, Machine, NoMemory, StepRec, Steps, Went};
 use std::alloc::Global;
 use std::marker::Brand;
 use std::sync::ledger::{Blank, Ledger};
@@ -57,7 +57,7 @@ fn machine_ready(alloc: Global, mode: Mode) -> Result<Machine, NoMemory> {
     Ok(machine)
 }
 
-/// Takes so many steps.
+/// Takes so many steps, each told in one record.
 fn take_steps<L: Ledger>(
     machine: &mut Machine,
     count: u32,
@@ -68,10 +68,11 @@ fn take_steps<L: Ledger>(
         value: None,
     };
     let mut tally = Tally::none();
+    let mut rec = StepRec::BLANK;
     for _ in 0..count {
         machine.reserve(2)?;
-        match &machine.step(due, steps) {
-            StepAnswer::Stepped(rec) => tally.add(rec),
+        match machine.step_into(due, steps, &mut rec) {
+            Went::Stepped => tally.add(&rec),
             _ => return Err(CourseFault::Stopped),
         }
     }

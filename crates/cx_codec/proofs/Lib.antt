@@ -1,6 +1,13 @@
 pub mod Blocks
+pub mod Collecting
+pub mod Composing
+pub mod Ending
+pub mod Following
 pub mod Parts
+pub mod Putting
 pub mod ReadBack
+pub mod ReadOnce
 pub mod Spelling
 pub mod Taking
+pub mod Texts
 pub mod VarintBytes

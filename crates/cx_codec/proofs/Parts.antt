@@ -1,11 +1,31 @@
--- Parts of lists: a window that begins later, and a list that is moved from the front of another.
-use Rattle.std.proofs.Common.{◌≡◌, ℕ, ◌+◌, ◌-◌, ◌≤◌, List, ◌++◌, length, take, drop, arith, refl, ap, sym, ◌∙◌, length-append, length-drop}
-use Rattle.std.proofs.lemmas.List.{drop-take, drop-drop, take-append-le, drop-append-le}
+-- Parts of lists: a window that begins later, and bytes that are moved from the front of a place.
+use Rattle.std.proofs.Common.{
+  ◌≡◌,
+  ℕ,
+  ◌+◌,
+  ◌-◌,
+  ◌≤◌,
+  List,
+  ◌++◌,
+  length,
+  take,
+  drop,
+  min,
+  arith,
+  refl,
+  ap,
+  sym,
+  ◌∙◌,
+  length-drop,
+}
+use Rattle.std.proofs.lemmas.List.{drop-take, drop-drop, drop-append-le}
 use Rattle.std.proofs.Math.Seq.{take-add}
-use Rattle.cx_codec.specs.Window.{items_between}
+use Rattle.cx_codec.specs.Place.{Place, room, advance}
+use Rattle.cx_codec.specs.Window.{items_between, Moves}
 
 -- a window that begins n later is what follows its first n
-pub items_between-later : (block : List ℕ) (start end n : ℕ) → start + n ≤ end → items_between block (start + n) end ≡ drop n (items_between block start end)
+pub items_between-later : (block : List ℕ) (start end n : ℕ) → start + n ≤ end
+    → items_between block (start + n) end ≡ drop n (items_between block start end)
 items_between-later block start end n h =
     let e : end - start ≡ n + (end - (start + n)) = omega arith in
     let f : drop (start + n) block ≡ drop n (drop start block) = sym (drop-drop n start block) in
@@ -13,22 +33,42 @@ items_between-later block start end n h =
 
 pub ruleset later = items_between-later
 
--- the first count of the bytes ahead stand at the front of into, and the others are left
-pub record Copied (into : List ℕ) (count : ℕ) (ahead rest : List ℕ) : Type 0 where
-  pub enough : count ≤ length ahead
-  pub front : take count into ≡ take count ahead
-  pub left : rest ≡ drop count ahead
+-- a place by its parts
+pub same_place : (p q : Place) → p.at ≡ q.at → p.limit ≡ q.limit → p.ahead ≡ q.ahead → p ≡ q
+same_place p q at limit ahead = let whole : record { at = p.at; limit = p.limit; ahead = p.ahead } ≡ q =
+    rw (at, limit, ahead) refl in whole
 
--- n more of them, from those that wait in front of the source's
-pub more_copied : (into into' : List ℕ) (count n : ℕ) (ahead ready ready' left : List ℕ) → Copied into count ahead (ready ++ left) → n ≤ length ready → take (count + n) into' ≡ take count into ++ take n ready → ready' ≡ drop n ready → Copied into' (count + n) ahead (ready' ++ left)
-more_copied into into' count n ahead ready ready' left before within moved rest =
-    let lengths : length ready + length left ≡ length ahead - count = sym (length-append ready left) ∙ ap length before.left ∙ length-drop count ahead in
+-- nothing yet
+pub none_moved : (into : List ℕ) (p : Place) → Moves into 0 p p
+none_moved into p = record
+    { enough = omega arith; front = refl; now = same_place p (advance 0 p) (omega arith) refl refl }
+
+-- n more bytes
+pub more_moved : (into into' : List ℕ) (k n : ℕ) (p q : Place) → Moves into k p q → n ≤ length q.ahead
+    → k + n ≤ p.limit - p.at
+    → take (k + n) into' ≡ take k into ++ take n q.ahead → Moves into' (k + n) p (advance n q)
+more_moved into into' k n p q before within room moved =
+    let ahead : q.ahead ≡ drop k p.ahead = ap (λ (x : Place). x.ahead) before.now in
+    let there : q.at ≡ p.at + k = ap (λ (x : Place). x.at) before.now in
+    let lengths : length q.ahead ≡ length p.ahead - k = ap length ahead ∙ length-drop k p.ahead in
+    let enough : k ≤ min (p.limit - p.at) (length p.ahead) = before.enough in
     record {
-      enough = let e : count ≤ length ahead = before.enough in omega arith;
-      front = moved ∙ rw (before.front, sym (take-append-le n ready left within), before.left) (sym (take-add count n ahead));
-      left = rw rest (sym (drop-append-le n ready left within) ∙ ap (drop n) before.left ∙ drop-drop n count ahead);
+      enough = omega arith;
+      front = moved ∙ rw (before.front, ahead) (sym (take-add k n p.ahead));
+      now = same_place (advance n q) (advance (k + n) p) (omega arith) (ap (λ (x : Place). x.limit) before.now)
+          (ap (drop n) ahead ∙ drop-drop n k p.ahead);
     }
 
--- the same bytes, in other parts
-pub copied_along : (into : List ℕ) (count : ℕ) (ahead rest rest' : List ℕ) → Copied into count ahead rest → rest' ≡ rest → Copied into count ahead rest'
-copied_along into count ahead rest rest' copied same = record { enough = copied.enough; front = copied.front; left = same ∙ copied.left }
+-- where those that wait stand in front of others
+pub advance_front : (n at limit : ℕ) (ready more : List ℕ) → n ≤ length ready
+    → advance n (record { at = at; limit = limit; ahead = ready ++ more }) ≡ record
+    { at = at + n; limit = limit; ahead = drop n ready ++ more }
+advance_front n at limit ready more within = rw (drop-append-le n ready more within) refl
+
+-- how many are left
+pub length_left : (into : List ℕ) (n : ℕ) (p after : Place) → Moves into n p after
+    → length after.ahead + n ≡ length p.ahead
+length_left into n p after moves =
+    let left : length after.ahead ≡ length p.ahead - n = ap (λ (q : Place). length q.ahead) moves.now
+    ∙ length-drop n p.ahead in
+    omega (arith, moves.enough)

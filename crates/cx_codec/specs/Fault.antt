@@ -1,8 +1,8 @@
--- The offset that a fault of reading names.
-use Rattle.std.specs.Prelude.{ℕ, Option, Some, None}
+-- What a fault of reading a field says of the input.
 use Rattle.cx_codec.specs.declared.fault.BytesFault.{BytesFault}
 use Rattle.cx_codec.specs.declared.fault.BytesFault.TheVariants.{Bad, ReadFault}
+use Rattle.cx_codec.specs.Reads.{Met, BadAt, Cut}
 
-abbrev pub offset : BytesFault → Option ℕ
-offset (Bad o) = Some o
-offset ReadFault = None
+abbrev pub bytes_met : BytesFault → Met
+bytes_met (Bad o) = BadAt o
+bytes_met ReadFault = Cut

@@ -1,5 +1,20 @@
 -- The fields that every format is made of.
-use Rattle.std.specs.Prelude.{ℕ, ◌+◌, List, length, take, nat_lt, slice_index, ◌==◌, Bool, true, false, Ok, Err, if◌then◌else◌}
+use Rattle.std.specs.Prelude.{
+  ℕ,
+  ◌+◌,
+  List,
+  length,
+  take,
+  nat_lt,
+  slice_index,
+  ◌==◌,
+  Bool,
+  true,
+  false,
+  Ok,
+  Err,
+  if◌then◌else◌,
+}
 use Rattle.std.specs.Int.{w32, from_le_bytes}
 use Rattle.cx_codec.specs.Place.{Reader, room, advance, ◌>>=◌, done, here, bad}
 use Rattle.cx_codec.specs.Varint.{varint_length, varint_value, is_varint}

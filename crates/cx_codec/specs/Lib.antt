@@ -1,7 +1,9 @@
 pub mod Place
+pub mod Reads
 pub mod Fields
 pub mod Varint
 pub mod Blocks
+pub mod Puts
 pub mod Fault
 pub mod Refusal
 pub mod Window

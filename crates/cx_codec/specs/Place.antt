@@ -1,5 +1,23 @@
 -- Reading a format: a reader takes a value from a place of an input, or answers the offset of the first bad field.
-use Rattle.std.specs.Prelude.{◌≡◌, ℕ, ◌+◌, ◌-◌, ◌≤◌, List, [], ◌++◌, length, drop, min, Option, None, Some, unwrap_or, Result, Ok, Err, Bool}
+use Rattle.std.specs.Prelude.{
+  ◌≡◌,
+  ℕ,
+  ◌+◌,
+  ◌-◌,
+  ◌≤◌,
+  List,
+  [],
+  ◌++◌,
+  length,
+  drop,
+  min,
+  Option,
+  unwrap_or,
+  Result,
+  Ok,
+  Err,
+  Bool,
+}
 
 -- A place of an input: its offset, the offset that no field may pass, and the bytes from here to the input's end.
 pub record Place : Type 0 where
@@ -14,6 +32,10 @@ room p = min (p.limit - p.at) (length p.ahead)
 -- the place n bytes further on
 abbrev pub advance : ℕ → Place → Place
 advance n p = record { at = p.at + n; limit = p.limit; ahead = drop n p.ahead }
+
+-- the offset at which the input ends
+abbrev pub end_of : Place → ℕ
+end_of p = p.at + length p.ahead
 
 abbrev pub Reader : Type 0 → Type 0
 Reader Y = Place → Result (Y × Place) ℕ
@@ -39,23 +61,17 @@ here p = Ok (p.at, p)
 abbrev pub bad : {Y : Type 0} → ℕ → Reader Y
 bad o p = Err o
 
--- a fault that names an offset is the one that reading answers; of another nothing is said
-abbrev pub FailsAt : {Y : Type 0} → Option ℕ → Result (Y × Place) ℕ → Type 0
-FailsAt None read = Unit {0}
-FailsAt (Some o) read = read ≡ Err o
-
--- What a call answered, seen by view, is what reading gives, and it left the place after. offset tells the offset that a
--- fault names.
-abbrev pub Gives : {X Y E : Type 0} → (E → Option ℕ) → (X → Y) → Result (Y × Place) ℕ → Place → Result X E → Type 0
-Gives offset view read after (Ok x) = read ≡ Ok (view x, after)
-Gives offset view read after (Err e) = FailsAt (offset e) read
-
--- What is kept of an input that is read through a buffer: the bytes that wait, the offset, the limit, and whether it goes on.
+-- What is kept of an input that is read through a buffer: the bytes that wait, the offset, the limit, and whether it
+-- goes on.
 pub record Buffered : Type 0 where
   pub ready : List ℕ
   pub at : ℕ
   pub limit : ℕ
   pub live : Bool
+
+-- the place at hand: where it stands, with the bytes that wait as all that there are
+abbrev pub at_hand : Buffered → Place
+at_hand b = record { at = b.at; limit = b.limit; ahead = b.ready }
 
 -- the place where it stands, over a source that has these bytes left
 abbrev pub seen : Buffered → Option (List ℕ) → Place
@@ -67,3 +83,7 @@ pub record Takes (p : Place) (text : List ℕ) (after : Place) : Type 0 where
   pub there : after.at ≡ p.at + length text
   pub limit : after.limit ≡ p.limit
   pub within : length text ≤ p.limit - p.at
+
+-- the place behind a text, with these bytes ahead
+abbrev pub behind_text : Place → List ℕ → List ℕ → Place
+behind_text p text rest = record { at = p.at + length text; limit = p.limit; ahead = rest }

@@ -1,5 +1,26 @@
 -- Numbers of seven bits a byte, the low ones first, with bit 7 set on every byte but the last.
-use Rattle.std.specs.Prelude.{ℕ, zero, suc, ◌+◌, ◌-◌, ◌*◌, ◌/◌, ◌%◌, ◌^◌, ◌<◌, nat_lt, ◌==◌, slice_index, ◌&&◌, ◌||◌, List, [], ◌∷◌, length, Bool, if◌then◌else◌}
+use Rattle.std.specs.Prelude.{
+  ℕ,
+  zero,
+  suc,
+  ◌+◌,
+  ◌-◌,
+  ◌*◌,
+  ◌/◌,
+  ◌%◌,
+  ◌^◌,
+  nat_lt,
+  ◌==◌,
+  slice_index,
+  ◌&&◌,
+  ◌||◌,
+  List,
+  [],
+  ◌∷◌,
+  length,
+  Bool,
+  if◌then◌else◌,
+}
 
 -- How many bytes the varint at the front takes, of at most `most`: those up to and with the first below 128. Where the
 -- bytes end before it, one more than there are.
@@ -31,7 +52,3 @@ varint_within (suc most) n = if nat_lt n 128 then n ∷ [] else (128 + n % 128) 
 -- the one spelling of a number below 2^64
 unfoldable pub varint : ℕ → List ℕ
 varint n = varint_within 10 n
-
--- each is a byte
-abbrev pub AreBytes : List ℕ → Type 0
-AreBytes bytes = (i : ℕ) → slice_index bytes i < 256

@@ -10,8 +10,8 @@ use thiserror::Error;
 /// Why a field could not be read.
 #[derive(Clone, Copy, Debug, PartialEq, Eq, Error)]
 pub enum BytesFault {
-    /// The field isn't there. The offset is the input's length where the input ends inside the field, the limit where the
-    /// byte at the limit is needed, and the field's first offset where a varint breaks its rule.
+    /// The field isn't there. The offset is the input's length where the input ends inside the field, the limit where
+    /// the byte at the limit is needed, and the field's first offset where a varint breaks its rule.
     #[error("Bad")]
     Bad(u64),
     /// The source failed.

@@ -1,10 +1,26 @@
 //! Putting fields into whole blocks for a sink.
 
-ghost use Rattle.std.specs.Prelude.{◌≡◌, ℕ, ◌+◌, ◌<◌, List, [], ◌∷◌, ◌++◌, length, true, is_ok, IfOk, OnOk, OnErr, IsSome, IsTrue, Option, false};
+ghost use Rattle.std.specs.Prelude.{
+  ◌≡◌,
+  ◌+◌,
+  ◌<◌,
+  [],
+  ◌∷◌,
+  ◌++◌,
+  length,
+  true,
+  IfOk,
+  OnOk,
+  OnErr,
+  IsSome,
+  IsTrue,
+  false,
+};
 ghost use Rattle.std.specs.Int.{w32, to_le_bytes};
 ghost use Rattle.std.specs.Io.KnownBytes.{Appends};
 ghost use Rattle.cx_io.specs.Cause.{HasCause};
-ghost use Rattle.cx_codec.specs.Blocks.{StandsFor, HasFront};
+ghost use Rattle.cx_codec.specs.Blocks.{HasFront};
+ghost use Rattle.cx_codec.specs.Puts.{Finishes, Puts, onto};
 ghost use Rattle.cx_codec.specs.Varint.{varint};
 
 use crate::buffer::BLOCK;
@@ -115,17 +131,13 @@ impl Out {
         written
     }
 
-    /// Puts the bytes. `WriteFault` comes only where the sink's count of faults rose, and `NoMemory` where it had no memory.
-    /// After a refusal the sink holds a front of what was put.
+    /// Puts the bytes. `WriteFault` comes only where the sink's count of faults rose, and `NoMemory` where it had no
+    /// memory. After a refusal the sink holds a front of what was put.
     pub fn put_bytes<T: Sink>(&mut self, bytes: &[u8], sink: &mut T) -> Result<(), OutFault>
         requires { IsTrue self.old.live }
-        ensures told { IsSome (T.held sink.old) → IsSome (T.held sink.new) }
-        ensures stands { OnOk result ((base : Option (List ℕ)) (put : List ℕ) →
-            StandsFor base put self.old.bytes (T.held sink.old) → StandsFor base (put ++ bytes.now) self.new.bytes (T.held sink.new)) }
-        ensures refused { OnErr result ((base : Option (List ℕ)) (put : List ℕ) →
-            StandsFor base put self.old.bytes (T.held sink.old) → HasFront base (put ++ bytes.now) (T.held sink.new)) }
-        ensures live { self.new.live ≡ is_ok result }
-        ensures cause { HasCause OutFault.WriteFault (T.faults sink.old) (T.faults sink.new) result }
+        ensures { Puts OutFault.WriteFault bytes.now
+            (onto self.old (T.held sink.old) (T.faults sink.old))
+            (onto self.new (T.held sink.new) (T.faults sink.new)) result }
     {
         let mut done = 0;
         while bytes.len() - done >= self.room() {
@@ -140,13 +152,9 @@ impl Out {
     /// Puts a byte. It is refused as bytes are.
     pub fn put_byte<T: Sink>(&mut self, value: u8, sink: &mut T) -> Result<(), OutFault>
         requires { IsTrue self.old.live }
-        ensures told { IsSome (T.held sink.old) → IsSome (T.held sink.new) }
-        ensures stands { OnOk result ((base : Option (List ℕ)) (put : List ℕ) →
-            StandsFor base put self.old.bytes (T.held sink.old) → StandsFor base (put ++ value ∷ []) self.new.bytes (T.held sink.new)) }
-        ensures refused { OnErr result ((base : Option (List ℕ)) (put : List ℕ) →
-            StandsFor base put self.old.bytes (T.held sink.old) → HasFront base (put ++ value ∷ []) (T.held sink.new)) }
-        ensures live { self.new.live ≡ is_ok result }
-        ensures cause { HasCause OutFault.WriteFault (T.faults sink.old) (T.faults sink.new) result }
+        ensures { Puts OutFault.WriteFault (value ∷ [])
+            (onto self.old (T.held sink.old) (T.faults sink.old))
+            (onto self.new (T.held sink.new) (T.faults sink.new)) result }
     {
         self.put_bytes(&[value], sink)
     }
@@ -154,13 +162,9 @@ impl Out {
     /// Puts a word: four bytes, the low one first. It is refused as bytes are.
     pub fn put_word<T: Sink>(&mut self, value: u32, sink: &mut T) -> Result<(), OutFault>
         requires { IsTrue self.old.live }
-        ensures told { IsSome (T.held sink.old) → IsSome (T.held sink.new) }
-        ensures stands { OnOk result ((base : Option (List ℕ)) (put : List ℕ) →
-            StandsFor base put self.old.bytes (T.held sink.old) → StandsFor base (put ++ to_le_bytes w32 value) self.new.bytes (T.held sink.new)) }
-        ensures refused { OnErr result ((base : Option (List ℕ)) (put : List ℕ) →
-            StandsFor base put self.old.bytes (T.held sink.old) → HasFront base (put ++ to_le_bytes w32 value) (T.held sink.new)) }
-        ensures live { self.new.live ≡ is_ok result }
-        ensures cause { HasCause OutFault.WriteFault (T.faults sink.old) (T.faults sink.new) result }
+        ensures { Puts OutFault.WriteFault (to_le_bytes w32 value)
+            (onto self.old (T.held sink.old) (T.faults sink.old))
+            (onto self.new (T.held sink.new) (T.faults sink.new)) result }
     {
         self.put_bytes(&value.to_le_bytes(), sink)
     }
@@ -168,13 +172,9 @@ impl Out {
     /// Puts a number as a varint, in its one spelling. It is refused as bytes are.
     pub fn put_varint<T: Sink>(&mut self, value: u64, sink: &mut T) -> Result<(), OutFault>
         requires { IsTrue self.old.live }
-        ensures told { IsSome (T.held sink.old) → IsSome (T.held sink.new) }
-        ensures stands { OnOk result ((base : Option (List ℕ)) (put : List ℕ) →
-            StandsFor base put self.old.bytes (T.held sink.old) → StandsFor base (put ++ varint value) self.new.bytes (T.held sink.new)) }
-        ensures refused { OnErr result ((base : Option (List ℕ)) (put : List ℕ) →
-            StandsFor base put self.old.bytes (T.held sink.old) → HasFront base (put ++ varint value) (T.held sink.new)) }
-        ensures live { self.new.live ≡ is_ok result }
-        ensures cause { HasCause OutFault.WriteFault (T.faults sink.old) (T.faults sink.new) result }
+        ensures { Puts OutFault.WriteFault (varint value)
+            (onto self.old (T.held sink.old) (T.faults sink.old))
+            (onto self.new (T.held sink.new) (T.faults sink.new)) result }
     {
         let mut digits = [0u8; varint::LONGEST];
         let count = varint::spell(value, &mut digits);
@@ -185,12 +185,8 @@ impl Out {
     /// It is refused as bytes are.
     pub fn finish<T: Sink>(self, sink: &mut T) -> Result<(), OutFault>
         requires { IsTrue self.live }
-        ensures told { IsSome (T.held sink.old) → IsSome (T.held sink.new) }
-        ensures written { OnOk result ((base : Option (List ℕ)) (put : List ℕ) →
-            StandsFor base put self.bytes (T.held sink.old) → Appends base (T.held sink.new) put) }
-        ensures refused { OnErr result ((base : Option (List ℕ)) (put : List ℕ) →
-            StandsFor base put self.bytes (T.held sink.old) → HasFront base put (T.held sink.new)) }
-        ensures cause { HasCause OutFault.WriteFault (T.faults sink.old) (T.faults sink.new) result }
+        ensures { Finishes OutFault.WriteFault []
+            (onto self (T.held sink.old) (T.faults sink.old)) (T.held sink.new) (T.faults sink.new) result }
     {
         write_all(self.waiting(), sink)?;
         Ok(sink.flush()?)

@@ -36,8 +36,8 @@ fn read_field<S: Source>(field: Field, bytes: &mut Bytes, source: &mut S) -> Res
     }
 }
 
-/// Reads a byte, sets the limit so many bytes behind it, and reads the field. Answers the number and where the reader stands
-/// then, or the offset at which the field is bad.
+/// Reads a byte, sets the limit so many bytes behind it, and reads the field. Answers the number and where the reader
+/// stands then, or the offset at which the field is bad.
 fn read_second<S: Source>(
     alloc: Global,
     field: Field,
@@ -63,11 +63,15 @@ struct Drip {
 }
 
 impl Source for Drip {
-    ghost use Rattle.std.specs.Prelude.{None};
+    ghost use Rattle.std.specs.Prelude.{None, []};
 
     ghost left = { λ s. None };
 
+    ghost given = { λ s. [] };
+
     ghost faults = { λ s. 0 };
+
+    fn tells_bytes(&self) {}
 
     fn read(&mut self, buf: &mut [u8]) -> Result<usize, Failed> {
         if buf.is_empty() || self.at >= self.bytes.len() {
@@ -79,8 +83,8 @@ impl Source for Drip {
     }
 }
 
-/// Sees that the field behind a byte is read as wanted: the number and where it ends, or the offset at which it is bad. It
-/// is the same from a source that gives one byte a call.
+/// Sees that the field behind a byte is read as wanted: the number and where it ends, or the offset at which it is bad.
+/// It is the same from a source that gives one byte a call.
 fn reads(
     rt: &impl Abort,
     alloc: Global,
@@ -258,8 +262,8 @@ fn whole_blocks_go_to_the_sink(rt: HostRuntime) -> Result<(), Fail> {
     Ok(())
 }
 
-/// What the sink's calls answer while so many bytes are put and finished, of which one is to fail, and how many bytes it
-/// holds then.
+/// What the sink's calls answer while so many bytes are put and finished, of which one is to fail, and how many bytes
+/// it holds then.
 fn put_and_finish(
     alloc: Global,
     size: usize,

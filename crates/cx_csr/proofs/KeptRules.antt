@@ -11,26 +11,30 @@ use Rattle.cx_csr.specs.Access.{written_at}
 use Rattle.cx_csr.specs.Bits.{with_bits}
 use Rattle.cx_csr.specs.Keeps.{Keeps, KeepsCsr}
 use Rattle.cx_csr.specs.Rules.{IsAligned, IsStatus, IsWithin}
-use Rattle.cx_csr.specs.Values.{written}
+use Rattle.cx_csr.specs.Values.{csr_written}
 use Rattle.cx_csr.proofs.Masks.{within_at, within_from_bits, within-and, within-with_bits, and-with_bits_apart}
+use Rattle.cx_csr.specs.declared.causes.TheConstants.{DELEGABLE_EXCEPTIONS}
+use Rattle.cx_csr.specs.declared.fields.TheConstants.{TVEC_FIELDS, EPC_FIELDS, COUNTEREN_FIELDS}
+use Rattle.cx_csr.specs.declared.interrupts.TheConstants.{SSI, SUPERVISOR_INTERRUPTS, ALL_INTERRUPTS}
+use Rattle.cx_csr.specs.declared.status.TheConstants.{MPP_FIELD, MPP_RESERVED, SSTATUS_FIELDS, MSTATUS_FIELDS_BUT_MPP, MSTATUS_FIELDS}
 
 -- mstatus with other fields, but the same MPP
-pub status-with_bits : (mask value old : ℕ) → IsWithin 0x7e19aa mask → mask < 2 ^ 32 → bit_and mask 0x1800 ≡ 0 → IsStatus old → IsStatus (with_bits mask value old)
+pub status-with_bits : (mask value old : ℕ) → IsWithin MSTATUS_FIELDS mask → mask < 2 ^ 32 → bit_and mask MPP_FIELD ≡ 0 → IsStatus old → IsStatus (with_bits mask value old)
 status-with_bits mask value old within small apart status = record {
-  within = within-with_bits 0x7e19aa mask value old within status.within;
-  previous = rw (and-with_bits_apart 0x1800 mask value old small (omega arith) apart) status.previous;
+  within = within-with_bits MSTATUS_FIELDS mask value old within status.within;
+  previous = rw (and-with_bits_apart MPP_FIELD mask value old small (omega arith) apart) status.previous;
 }
 
-status-from_test : (value old : ℕ) (test : Bool) → (test ≡ false → bit_and value 0x1800 ≢ 0x1000) → IsStatus old → IsStatus (cond test (with_bits 0x7e01aa value old) (bit_and value 0x7e19aa))
-status-from_test value old true other status = status-with_bits 0x7e01aa value old refl (omega arith) refl status
+status-from_test : (value old : ℕ) (test : Bool) → (test ≡ false → bit_and value MPP_FIELD ≢ MPP_RESERVED) → IsStatus old → IsStatus (cond test (with_bits MSTATUS_FIELDS_BUT_MPP value old) (bit_and value MSTATUS_FIELDS))
+status-from_test value old true other status = status-with_bits MSTATUS_FIELDS_BUT_MPP value old refl (omega arith) refl status
 status-from_test value old false other status = record {
-  within = within-and value 0x7e19aa;
+  within = within-and value MSTATUS_FIELDS;
   previous = rw and_assoc (other refl);
 }
 
-aligned-and : (value : ℕ) → value < 2 ^ 32 → IsAligned (bit_and value 0xfffffffc)
+aligned-and : (value : ℕ) → value < 2 ^ 32 → IsAligned (bit_and value EPC_FIELDS)
 aligned-and value h = let parts = and_high_numeral value 0xfffffffb refl h in record {
-  wide = omega (arith, and_le_l value 0xfffffffc);
+  wide = omega (arith, and_le_l value EPC_FIELDS);
   multiple = omega arith;
 }
 
@@ -44,29 +48,29 @@ low_fits v n h i = omega arith
 high_fits : (v n : ℕ) → v < 2 ^ 32 → n % 2 ^ 32 + v * 2 ^ 32 < 2 ^ 64
 high_fits v n h = omega arith
 
-pub csr-written : (r : Register) (v : ℕ) (c : CsrFile) → v < 2 ^ 32 → KeepsCsr c → KeepsCsr (written r v c)
-csr-written Sstatus v c h k = assumption (status-with_bits 0xc0122 v c.mstatus refl (omega arith) refl k.mstatus)
-csr-written Sie v c h k = assumption (within-with_bits 0xaaa c.mideleg v c.mie (within-within 0x222 0xaaa c.mideleg refl k.mideleg) k.mie)
-csr-written Stvec v c h k = assumption (within-and v 0xfffffffd)
-csr-written Scounteren v c h k = assumption (within-and v 7)
+pub csr-written : (r : Register) (v : ℕ) (c : CsrFile) → v < 2 ^ 32 → KeepsCsr c → KeepsCsr (csr_written r v c)
+csr-written Sstatus v c h k = assumption (status-with_bits SSTATUS_FIELDS v c.mstatus refl (omega arith) refl k.mstatus)
+csr-written Sie v c h k = assumption (within-with_bits ALL_INTERRUPTS c.mideleg v c.mie (within-within SUPERVISOR_INTERRUPTS ALL_INTERRUPTS c.mideleg refl k.mideleg) k.mie)
+csr-written Stvec v c h k = assumption (within-and v TVEC_FIELDS)
+csr-written Scounteren v c h k = assumption (within-and v COUNTEREN_FIELDS)
 csr-written Sscratch v c h k = assumption (h)
 csr-written Sepc v c h k = assumption (aligned-and v h)
 csr-written Scause v c h k = assumption (h)
 csr-written Stval v c h k = assumption (h)
-csr-written Sip v c h k = assumption (within-with_bits 0x222 (bit_and c.mideleg 2) v c.mip (within-within 2 0x222 (bit_and c.mideleg 2) refl (within-and c.mideleg 2)) k.mip)
+csr-written Sip v c h k = assumption (within-with_bits SUPERVISOR_INTERRUPTS (bit_and c.mideleg (2 ^ SSI)) v c.mip (within-within (2 ^ SSI) SUPERVISOR_INTERRUPTS (bit_and c.mideleg (2 ^ SSI)) refl (within-and c.mideleg (2 ^ SSI))) k.mip)
 csr-written Satp v c h k = assumption (h)
-csr-written Mstatus v c h k = assumption (status-from_test v c.mstatus (eqb (bit_and v 0x1800) 0x1000) (eqb-false (bit_and v 0x1800) 0x1000) k.mstatus)
+csr-written Mstatus v c h k = assumption (status-from_test v c.mstatus (eqb (bit_and v MPP_FIELD) MPP_RESERVED) (eqb-false (bit_and v MPP_FIELD) MPP_RESERVED) k.mstatus)
 csr-written Misa v c h k = k
-csr-written Medeleg v c h k = assumption (within-and v 0xb3ff)
-csr-written Mideleg v c h k = assumption (within-and v 0x222)
-csr-written Mie v c h k = assumption (within-and v 0xaaa)
-csr-written Mtvec v c h k = assumption (within-and v 0xfffffffd)
-csr-written Mcounteren v c h k = assumption (within-and v 7)
+csr-written Medeleg v c h k = assumption (within-and v DELEGABLE_EXCEPTIONS)
+csr-written Mideleg v c h k = assumption (within-and v SUPERVISOR_INTERRUPTS)
+csr-written Mie v c h k = assumption (within-and v ALL_INTERRUPTS)
+csr-written Mtvec v c h k = assumption (within-and v TVEC_FIELDS)
+csr-written Mcounteren v c h k = assumption (within-and v COUNTEREN_FIELDS)
 csr-written Mscratch v c h k = assumption (h)
 csr-written Mepc v c h k = assumption (aligned-and v h)
 csr-written Mcause v c h k = assumption (h)
 csr-written Mtval v c h k = assumption (h)
-csr-written Mip v c h k = assumption (within-and v 0x222)
+csr-written Mip v c h k = assumption (within-and v SUPERVISOR_INTERRUPTS)
 csr-written Mcycle v c h k = assumption (low_fits v c.mcycle h k.mcycle)
 csr-written Mcycleh v c h k = assumption (high_fits v c.mcycle h)
 csr-written Minstret v c h k = assumption (low_fits v c.minstret h k.minstret)

@@ -7,12 +7,15 @@ use Rattle.cx_csr.specs.declared.access.Csr.{Csr}
 use Rattle.cx_csr.specs.declared.access.Csr.TheVariants.{Illegal}
 use Rattle.cx_csr.specs.declared.register.Register.{Register}
 use Rattle.cx_csr.specs.declared.register.Register.TheVariants.{Sstatus, Sie, Stvec, Scounteren, Sscratch, Sepc, Scause, Stval, Sip, Satp, Mstatus, Misa, Medeleg, Mideleg, Mie, Mtvec, Mcounteren, Mscratch, Mepc, Mcause, Mtval, Mip, Mcycle, Mcycleh, Minstret, Minstreth, Cycle, Cycleh, Time, Timeh, Instret, Instreth, NoEffect}
-use Rattle.cx_csr.specs.Access.{modify_base, csr_read, is_illegal, is_above, is_read_only, is_trapped, is_closed, is_closed_to_user, value_at, IsWordAnswer}
+use Rattle.cx_csr.specs.Access.{modify_base, csr_read, is_illegal, is_above, is_read_only, is_trapped, is_closed, is_closed_to_user, csr_value, IsWordAnswer}
 use Rattle.cx_csr.specs.Bits.{with_bits}
 use Rattle.cx_csr.specs.Keeps.{Keeps}
 use Rattle.cx_csr.specs.Table.{register_at}
 use Rattle.cx_csr.specs.Values.{read_as}
 use Rattle.cx_csr.proofs.WordLists.{within_wide}
+use Rattle.cx_csr.specs.declared.interrupts.TheConstants.{SEI}
+use Rattle.cx_csr.specs.declared.numbers.TheConstants.{CSR_MIP}
+use Rattle.cx_csr.specs.declared.status.TheConstants.{SSTATUS_FIELDS}
 
 abbrev has_answer : Csr → Bool
 has_answer Illegal = false
@@ -23,7 +26,7 @@ read_as_answers Sstatus s = refl
 read_as_answers _ s = refl
 
 read_as_word : (pages : ℕ) (r : Register) (s : State) → Keeps pages s → IsWordAnswer (read_as r s)
-read_as_word pages Sstatus s k = omega (arith, and_le_r s.csr.mstatus 0xc0122)
+read_as_word pages Sstatus s k = omega (arith, and_le_r s.csr.mstatus SSTATUS_FIELDS)
 read_as_word pages Sie s k = omega (arith, and_le_r s.csr.mie s.csr.mideleg, within_wide _ _ (omega arith) k.csr.mideleg)
 read_as_word pages Stvec s k = within_wide _ _ (omega arith) k.csr.stvec
 read_as_word pages Scounteren s k = within_wide _ _ (omega arith) k.csr.scounteren
@@ -62,12 +65,12 @@ first_of_six : (a b c d e f : Bool) → (a || b || c || d || e || f) ≡ false �
 first_of_six true b c d e f h = h
 first_of_six false b c d e f h = refl
 
-answer_or_reason : (illegal : Bool) (r : Option Register) (s : State) → (illegal ≡ false → is_none r ≡ false) → (cond illegal Illegal (value_at r s) ≡ Illegal) ↔ IsTrue illegal
+answer_or_reason : (illegal : Bool) (r : Option Register) (s : State) → (illegal ≡ false → is_none r ≡ false) → (cond illegal Illegal (csr_value r s) ≡ Illegal) ↔ IsTrue illegal
 answer_or_reason true r s known = (λ _. refl, λ _. refl)
 answer_or_reason false None s known = absurd (let same = known refl in cc)
 answer_or_reason false (Some r) s known = (λ e. absurd (let same = ap has_answer e in let other = read_as_answers r s in cc), λ never. absurd cc)
 
-word_or_none : (pages : ℕ) (illegal : Bool) (r : Option Register) (s : State) → Keeps pages s → IsWordAnswer (cond illegal Illegal (value_at r s))
+word_or_none : (pages : ℕ) (illegal : Bool) (r : Option Register) (s : State) → Keeps pages s → IsWordAnswer (cond illegal Illegal (csr_value r s))
 word_or_none pages true r s k = tt
 word_or_none pages false None s k = tt
 word_or_none pages false (Some r) s k = read_as_word pages r s k
@@ -101,9 +104,9 @@ pub illegal_for_writes : (s : State) (number : ℕ) → is_illegal true s number
 unfolding is_illegal
 illegal_for_writes s number = third_to_end (is_none (register_at number)) (is_above s number) (is_read_only number) (is_trapped s number) (is_closed s number) (is_closed_to_user s number)
 
-base_word : (patched : Bool) (software value : ℕ) → value < 2 ^ 32 → cond patched (with_bits 0x200 software value) value < 2 ^ 32
-base_word true software value h = or_of_32 (bit_and value (2 ^ 32 - 1 - 0x200)) (bit_and software 0x200) (omega (arith, and_le_l value (2 ^ 32 - 1 - 0x200))) (omega (arith, and_le_r software 0x200))
+base_word : (patched : Bool) (software value : ℕ) → value < 2 ^ 32 → cond patched (with_bits (2 ^ SEI) software value) value < 2 ^ 32
+base_word true software value h = or_of_32 (bit_and value (2 ^ 32 - 1 - (2 ^ SEI))) (bit_and software (2 ^ SEI)) (omega (arith, and_le_l value (2 ^ 32 - 1 - (2 ^ SEI)))) (omega (arith, and_le_r software (2 ^ SEI)))
 base_word false software value h = h
 
 pub modify_base_word : (s : State) (number value : ℕ) → value < 2 ^ 32 → modify_base s number value < 2 ^ 32
-modify_base_word s number value h = base_word (eqb number 0x344) s.csr.mip value h
+modify_base_word s number value h = base_word (eqb number CSR_MIP) s.csr.mip value h

@@ -1,4 +1,5 @@
 pub mod WordLists
+pub mod RuleTests
 pub mod SameWords
 pub mod Masks
 pub mod KeptRules

@@ -1,13 +1,9 @@
--- A state that keeps the rules is the one that its words stand for, and each of its words passes its test.
-use Rattle.std.proofs.Common.{◌≡◌, ℕ, zero, suc, ◌+◌, ◌-◌, ◌*◌, ◌/◌, ◌%◌, ◌^◌, ◌<◌, ◌≤◌, List, [], ◌∷◌, ◌++◌, length, take, drop, get_or, Option, None, Some, Bool, true, false, not, ◌&&◌, eqb, ◌≢◌, arith, refl, ap, sym, ◌∙◌, length-drop}
+-- A state that keeps the rules is the one that its words stand for.
+use Rattle.std.proofs.Common.{◌≡◌, ℕ, ◌+◌, ◌*◌, ◌/◌, ◌%◌, ◌^◌, ◌<◌, List, [], ◌∷◌, ◌++◌, length, drop, get_or, Option, None, Some, arith, refl, sym, ◌∙◌, length-drop}
 use Rattle.std.proofs.lemmas.List.{take_all}
 use Rattle.cx_csr.specs.declared.state.State.{State}
 use Rattle.cx_csr.specs.declared.state.CsrFile.{CsrFile}
-use Rattle.std.proofs.lemmas.Bool.{lt-ltb, le-leb, eq-eqb, eqb-true, false_from_ne_true}
-use Rattle.cx_csr.specs.declared.rules.Rule.{Rule}
-use Rattle.cx_csr.specs.declared.rules.Rule.TheVariants.{Any, Aligned, Within, Mode, Status, Flag, Place}
-use Rattle.cx_csr.specs.Rules.{Admits, admits, IsPlaceBehind, is_place_behind}
-use Rattle.cx_csr.specs.Words.{words_of, rest_words, csr_words, reservation_words, halves, state_of, csr_of, reservation_of}
+use Rattle.cx_csr.specs.Words.{words_of, csr_words, reservation_words, state_of}
 use Rattle.cx_csr.specs.Keeps.{Keeps}
 use Rattle.cx_csr.proofs.WordLists.{take-drop_spelled, spelled}
 
@@ -43,24 +39,3 @@ state_again pages s k =
     let listed : drop 1 s.x ≡ spelled 31 0 (drop 1 s.x) = sym (take_all 31 (drop 1 s.x) (omega arith)) ∙ take-drop_spelled 31 0 (drop 1 s.x) (omega arith) in
     from_parts s (drop 1 s.x) s.reservation listed
     ∙ same_state s _ _ (zero_first s.x (omega (arith, k.registers)) k.zero_register) (same_csr s.csr)
-
-and_true : (a b : Bool) → a ≡ true → b ≡ true → (a && b) ≡ true
-and_true a b p q = rw (p, q) refl
-
-not_equal : (a b : ℕ) → a ≢ b → not (eqb a b) ≡ true
-not_equal a b ne = let different : eqb a b ≡ false = false_from_ne_true (eqb a b) (λ h. ne (eqb-true a b h)) in rw different refl
-
-place_passes : (pages before word : ℕ) → IsPlaceBehind pages before word → is_place_behind pages before word ≡ true
-place_passes pages zero word rule = eq-eqb word 0 rule
-place_passes pages (suc flag) word rule =
-    and_true _ _ (and_true _ _ (le-leb _ word rule.low) (le-leb (word + 4) _ rule.high)) (eq-eqb (word % 4) 0 rule.multiple)
-
--- a word that obeys its rule passes its test
-pub passes : (pages before word : ℕ) (rule : Rule) → Admits pages before rule word → admits pages before rule word ≡ true
-passes pages before word Any obeys = lt-ltb word (2 ^ 32) obeys
-passes pages before word Aligned obeys = and_true _ _ (lt-ltb word (2 ^ 32) obeys.wide) (eq-eqb (word % 4) 0 obeys.multiple)
-passes pages before word (Within mask) obeys = eq-eqb _ word obeys
-passes pages before word Mode obeys = and_true _ _ (le-leb word 3 obeys.most) (not_equal word 2 obeys.served)
-passes pages before word Status obeys = and_true _ _ (eq-eqb _ word obeys.within) (not_equal _ 0x1000 obeys.previous)
-passes pages before word Flag obeys = le-leb word 1 obeys
-passes pages before word Place obeys = place_passes pages before word obeys

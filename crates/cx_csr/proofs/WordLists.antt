@@ -11,6 +11,8 @@ use Rattle.cx_csr.specs.declared.rules.Rule.TheVariants.{Any, Within, Flag, Plac
 use Rattle.cx_csr.specs.Rules.{Admits, AllFit, IsPlace, IsPlaceBehind, IsWithin, rules as word_rules, rule_at}
 use Rattle.cx_csr.specs.Keeps.{Keeps}
 use Rattle.cx_csr.specs.Words.{csr_of, csr_words, reservation_of, reservation_words, rest_words, state_of, words_of}
+use Rattle.cx_csr.specs.declared.interrupts.TheConstants.{LINE_INTERRUPTS}
+use Rattle.cx_map.specs.declared.TheConstants.{MOST_PAGES}
 
 -- rules and words side by side, behind the word that stands before them
 abbrev pub FitFrom : ℕ → ℕ → List Rule → List ℕ → Type 0
@@ -42,7 +44,7 @@ take-drop_spelled (suc n) i words h =
     let at_place : i < length words = omega arith in
     rw (drop-cons words i 0 at_place) (ap (λ (rest : List ℕ). get_or words i 0 ∷ rest) (rw (← add-one) (take-drop_spelled n (i + 1) words (omega arith))))
 
-fit-reservation : (pages before lines : ℕ) (r : Option ℕ) → IfSome r (IsPlace pages) → IsWithin 0xa88 lines → FitFrom pages before (Flag ∷ Place ∷ Within 0xa88 ∷ []) (reservation_words r ++ lines ∷ [])
+fit-reservation : (pages before lines : ℕ) (r : Option ℕ) → IfSome r (IsPlace pages) → IsWithin LINE_INTERRUPTS lines → FitFrom pages before (Flag ∷ Place ∷ Within LINE_INTERRUPTS ∷ []) (reservation_words r ++ lines ∷ [])
 fit-reservation pages before lines None place within = (omega arith, (refl, (within, tt)))
 fit-reservation pages before lines (Some p) place within = (omega arith, (place, (within, tt)))
 
@@ -221,11 +223,11 @@ length-words_of pages s k =
 pub within_wide : (mask word : ℕ) → mask < 2 ^ 32 → IsWithin mask word → word < 2 ^ 32
 within_wide mask word h within = omega (arith, and_le_r word mask, within)
 
-wide_reservation : (pages lines : ℕ) (r : Option ℕ) → pages ≤ 262144 → IfSome r (IsPlace pages) → IsWithin 0xa88 lines → AllByRecursion (λ w. w < 2 ^ 32) (reservation_words r ++ lines ∷ [])
-wide_reservation pages lines None h place within = (omega arith, (omega arith, (within_wide 0xa88 lines (omega arith) within, tt)))
-wide_reservation pages lines (Some p) h place within = (omega arith, (omega (arith, place.high), (within_wide 0xa88 lines (omega arith) within, tt)))
+wide_reservation : (pages lines : ℕ) (r : Option ℕ) → pages ≤ MOST_PAGES → IfSome r (IsPlace pages) → IsWithin LINE_INTERRUPTS lines → AllByRecursion (λ w. w < 2 ^ 32) (reservation_words r ++ lines ∷ [])
+wide_reservation pages lines None h place within = (omega arith, (omega arith, (within_wide LINE_INTERRUPTS lines (omega arith) within, tt)))
+wide_reservation pages lines (Some p) h place within = (omega arith, (omega (arith, place.inside.high), (within_wide LINE_INTERRUPTS lines (omega arith) within, tt)))
 
-wide_rest : (pages : ℕ) (s : State) → pages ≤ 262144 → Keeps pages s → AllByRecursion (λ w. w < 2 ^ 32) (rest_words s)
+wide_rest : (pages : ℕ) (s : State) → pages ≤ MOST_PAGES → Keeps pages s → AllByRecursion (λ w. w < 2 ^ 32) (rest_words s)
 wide_rest pages s h k =
     let c = k.csr in (
       omega (arith, k.mode.most),
@@ -298,7 +300,7 @@ wide_rest pages s h k =
       ),
     )
 
-pub wide-words_of : (pages : ℕ) (s : State) → pages ≤ 262144 → Keeps pages s → All (λ w. w < 2 ^ 32) (words_of s)
+pub wide-words_of : (pages : ℕ) (s : State) → pages ≤ MOST_PAGES → Keeps pages s → All (λ w. w < 2 ^ 32) (words_of s)
 unfolding words_of
 wide-words_of pages s h k =
     let P : ℕ → Type 0 = λ w. w < 2 ^ 32 in

@@ -1,9 +1,16 @@
 -- What each word of a state may be. A word obeys its rule where a write to its register could have left it there
 -- (Privileged 1.12: the fields of each register, with the bits that this hart hasn't always 0).
-use Rattle.std.specs.Prelude.{◌≡◌, ◌≢◌, ℕ, zero, suc, Bool, not, nat_lt, nat_le, ◌==◌, ◌&&◌, ◌+◌, ◌-◌, ◌*◌, ◌%◌, ◌^◌, ◌<◌, ◌≤◌, List, [], ◌∷◌, ◌++◌, replicate, slice_index, slice_index_or}
+use Rattle.std.specs.Prelude.{◌≡◌, ◌≢◌, ℕ, zero, suc, Bool, not, nat_lt, nat_le, ◌==◌, ◌&&◌, ◌+◌, ◌-◌, ◌%◌, ◌^◌, ◌<◌, ◌≤◌, List, [], ◌∷◌, ◌++◌, replicate, slice_index, slice_index_or}
 use Rattle.std.specs.Int.RustNames.{bit_and}
 use Rattle.cx_csr.specs.declared.rules.Rule.{Rule}
 use Rattle.cx_csr.specs.declared.rules.Rule.TheVariants.{Any, Aligned, Within, Mode, Status, Flag, Place}
+use Rattle.cx_csr.specs.declared.causes.TheConstants.{DELEGABLE_EXCEPTIONS}
+use Rattle.cx_csr.specs.declared.fields.TheConstants.{TVEC_FIELDS, COUNTEREN_FIELDS}
+use Rattle.cx_csr.specs.declared.interrupts.TheConstants.{SUPERVISOR_INTERRUPTS, ALL_INTERRUPTS, LINE_INTERRUPTS}
+use Rattle.cx_csr.specs.declared.modes.TheConstants.{RESERVED_MODE, MACHINE}
+use Rattle.cx_csr.specs.declared.status.TheConstants.{MPP_FIELD, MPP_RESERVED, MSTATUS_FIELDS}
+use Rattle.cx_map.specs.Map.{IsInRam, size_of_pages}
+use Rattle.cx_map.specs.declared.TheConstants.{RAM_START}
 
 -- an address of an instruction, or a place of a word
 pub record IsAligned (word : ℕ) : Type 0 where
@@ -16,19 +23,17 @@ IsWithin mask word = bit_and word mask ≡ word
 
 -- the modes of section 1.2: 0 user, 1 supervisor, 3 machine, while 2 is reserved
 pub record IsMode (mode : ℕ) : Type 0 where
-  pub most : mode ≤ 3
-  pub served : mode ≢ 2
+  pub most : mode ≤ MACHINE
+  pub served : mode ≢ RESERVED_MODE
 
--- The fields of mstatus (section 3.1.6) are SIE 1, MIE 3, SPIE 5, MPIE 7, SPP 8, MPP 12:11, MPRV 17, SUM 18, MXR 19,
--- TVM 20, TW 21 and TSR 22. MPP holds a mode.
+-- a value of mstatus: its fields (section 3.1.6), with a mode in MPP
 pub record IsStatus (word : ℕ) : Type 0 where
-  pub within : IsWithin 0x7e19aa word
-  pub previous : bit_and word 0x1800 ≢ 0x1000
+  pub within : IsWithin MSTATUS_FIELDS word
+  pub previous : bit_and word MPP_FIELD ≢ MPP_RESERVED
 
--- the place of an aligned word in RAM of so many pages of 4,096 bytes, which begins at 2^31
+-- the place of a word in RAM of so many pages, aligned as a reservation is (Unprivileged 8.2)
 pub record IsPlace (pages place : ℕ) : Type 0 where
-  pub low : 2 ^ 31 ≤ place
-  pub high : place + 4 ≤ 2 ^ 31 + pages * 4096
+  pub inside : IsInRam (size_of_pages pages) place 4
   pub multiple : place % 4 ≡ 0
 
 -- The word of a reservation behind its flag: 0 where none stands.
@@ -46,9 +51,13 @@ Admits pages before Status word = IsStatus word
 Admits pages before Flag word = word ≤ 1
 Admits pages before Place word = IsPlaceBehind pages before word
 
--- the same as a test
+-- Bytes lie in RAM of so many bytes, as a test.
+abbrev pub is_in_ram : ℕ → ℕ → ℕ → Bool
+is_in_ram size place len = nat_le RAM_START place && nat_le (place + len) (RAM_START + size)
+
+-- the rules as tests
 abbrev pub is_place : ℕ → ℕ → Bool
-is_place pages place = nat_le (2 ^ 31) place && nat_le (place + 4) (2 ^ 31 + pages * 4096) && (place % 4 == 0)
+is_place pages place = is_in_ram (size_of_pages pages) place 4 && (place % 4 == 0)
 
 abbrev pub is_place_behind : ℕ → ℕ → ℕ → Bool
 is_place_behind pages zero word = word == 0
@@ -58,8 +67,8 @@ abbrev pub admits : ℕ → ℕ → Rule → ℕ → Bool
 admits pages before Any word = nat_lt word (2 ^ 32)
 admits pages before Aligned word = nat_lt word (2 ^ 32) && (word % 4 == 0)
 admits pages before (Within mask) word = bit_and word mask == word
-admits pages before Mode word = nat_le word 3 && not (word == 2)
-admits pages before Status word = (bit_and word 0x7e19aa == word) && not (bit_and word 0x1800 == 0x1000)
+admits pages before Mode word = nat_le word MACHINE && not (word == RESERVED_MODE)
+admits pages before Status word = (bit_and word MSTATUS_FIELDS == word) && not (bit_and word MPP_FIELD == MPP_RESERVED)
 admits pages before Flag word = nat_le word 1
 admits pages before Place word = is_place_behind pages before word
 
@@ -69,11 +78,12 @@ admits pages before Place word = is_place_behind pages before word
 abbrev pub rules : List Rule
 rules =
     (Aligned ∷ replicate 31 Any)
-    ++ (Mode ∷ Status ∷ Within 0xb3ff ∷ Within 0x222 ∷ Within 0xaaa ∷ Within 0x222 ∷ [])
-    ++ (Within 0xfffffffd ∷ Within 7 ∷ Any ∷ Aligned ∷ Any ∷ Any ∷ [])
-    ++ (Within 0xfffffffd ∷ Within 7 ∷ Any ∷ Aligned ∷ Any ∷ Any ∷ [])
+    ++ (Mode ∷ Status ∷ Within DELEGABLE_EXCEPTIONS ∷ Within SUPERVISOR_INTERRUPTS ∷ [])
+    ++ (Within ALL_INTERRUPTS ∷ Within SUPERVISOR_INTERRUPTS ∷ [])
+    ++ (Within TVEC_FIELDS ∷ Within COUNTEREN_FIELDS ∷ Any ∷ Aligned ∷ Any ∷ Any ∷ [])
+    ++ (Within TVEC_FIELDS ∷ Within COUNTEREN_FIELDS ∷ Any ∷ Aligned ∷ Any ∷ Any ∷ [])
     ++ replicate 5 Any
-    ++ (Flag ∷ Place ∷ Within 0xa88 ∷ [])
+    ++ (Flag ∷ Place ∷ Within LINE_INTERRUPTS ∷ [])
 
 abbrev pub rule_at : ℕ → Rule
 rule_at i = slice_index_or rules i Any

@@ -2,54 +2,55 @@
 use Rattle.std.specs.Prelude.{ℕ, Bool, ◌==◌, ◌&&◌, ◌||◌, nat_le, if◌then◌else◌, Option, None, Some}
 use Rattle.cx_csr.specs.declared.register.Register.{Register}
 use Rattle.cx_csr.specs.declared.register.Register.TheVariants.{Sstatus, Sie, Stvec, Scounteren, Sscratch, Sepc, Scause, Stval, Sip, Satp, Mstatus, Misa, Medeleg, Mideleg, Mie, Mtvec, Mcounteren, Mscratch, Mepc, Mcause, Mtval, Mip, Mcycle, Mcycleh, Minstret, Minstreth, Cycle, Cycleh, Time, Timeh, Instret, Instreth, NoEffect}
+use Rattle.cx_csr.specs.declared.numbers.TheConstants.{CSR_SSTATUS, CSR_SIE, CSR_STVEC, CSR_SCOUNTEREN, CSR_SENVCFG, CSR_SSCRATCH, CSR_SEPC, CSR_SCAUSE, CSR_STVAL, CSR_SIP, CSR_SATP, CSR_MSTATUS, CSR_MISA, CSR_MEDELEG, CSR_MIDELEG, CSR_MIE, CSR_MTVEC, CSR_MCOUNTEREN, CSR_MENVCFG, CSR_MSTATUSH, CSR_MENVCFGH, CSR_MCOUNTINHIBIT, CSR_MHPMEVENT3, CSR_MHPMEVENT31, CSR_MSCRATCH, CSR_MEPC, CSR_MCAUSE, CSR_MTVAL, CSR_MIP, CSR_PMPCFG0, CSR_PMPCFG3, CSR_PMPADDR0, CSR_PMPADDR15, CSR_MCYCLE, CSR_MINSTRET, CSR_MHPMCOUNTER3, CSR_MHPMCOUNTER31, CSR_MCYCLEH, CSR_MINSTRETH, CSR_MHPMCOUNTER3H, CSR_MHPMCOUNTER31H, CSR_MVENDORID, CSR_MCONFIGPTR, CSR_CYCLE, CSR_TIME, CSR_INSTRET, CSR_HPMCOUNTER3, CSR_HPMCOUNTER31, CSR_CYCLEH, CSR_TIMEH, CSR_INSTRETH, CSR_HPMCOUNTER3H, CSR_HPMCOUNTER31H}
 
 -- the number is one of those from first to last
 abbrev pub is_from : ℕ → ℕ → ℕ → Bool
 is_from first last n = nat_le first n && nat_le n last
 
--- senvcfg, menvcfg, menvcfgh, mstatush, mcountinhibit; mhpmevent3 to 31; pmpcfg0 to 3 and pmpaddr0 to 15;
--- mhpmcounter3 to 31 and their high halves; hpmcounter3 to 31 and their high halves; mvendorid, marchid, mimpid,
--- mhartid and mconfigptr
+-- the registers that read 0 and keep nothing
 unfoldable pub has_no_effect : ℕ → Bool
 has_no_effect n =
-    n == 0x10a || n == 0x30a || n == 0x31a || n == 0x310 || n == 0x320
-    || is_from 0x323 0x33f n || is_from 0x3a0 0x3a3 n || is_from 0x3b0 0x3bf n
-    || is_from 0xb03 0xb1f n || is_from 0xb83 0xb9f n
-    || is_from 0xc03 0xc1f n || is_from 0xc83 0xc9f n || is_from 0xf11 0xf15 n
+    n == CSR_SENVCFG || n == CSR_MENVCFG || n == CSR_MENVCFGH || n == CSR_MSTATUSH || n == CSR_MCOUNTINHIBIT
+    || is_from CSR_MHPMEVENT3 CSR_MHPMEVENT31 n
+    || is_from CSR_PMPCFG0 CSR_PMPCFG3 n || is_from CSR_PMPADDR0 CSR_PMPADDR15 n
+    || is_from CSR_MHPMCOUNTER3 CSR_MHPMCOUNTER31 n || is_from CSR_MHPMCOUNTER3H CSR_MHPMCOUNTER31H n
+    || is_from CSR_HPMCOUNTER3 CSR_HPMCOUNTER31 n || is_from CSR_HPMCOUNTER3H CSR_HPMCOUNTER31H n
+    || is_from CSR_MVENDORID CSR_MCONFIGPTR n
 
 unfoldable pub register_at : ℕ → Option Register
 register_at n =
-    if n == 0x100 then Some Sstatus else
-    if n == 0x104 then Some Sie else
-    if n == 0x105 then Some Stvec else
-    if n == 0x106 then Some Scounteren else
-    if n == 0x140 then Some Sscratch else
-    if n == 0x141 then Some Sepc else
-    if n == 0x142 then Some Scause else
-    if n == 0x143 then Some Stval else
-    if n == 0x144 then Some Sip else
-    if n == 0x180 then Some Satp else
-    if n == 0x300 then Some Mstatus else
-    if n == 0x301 then Some Misa else
-    if n == 0x302 then Some Medeleg else
-    if n == 0x303 then Some Mideleg else
-    if n == 0x304 then Some Mie else
-    if n == 0x305 then Some Mtvec else
-    if n == 0x306 then Some Mcounteren else
-    if n == 0x340 then Some Mscratch else
-    if n == 0x341 then Some Mepc else
-    if n == 0x342 then Some Mcause else
-    if n == 0x343 then Some Mtval else
-    if n == 0x344 then Some Mip else
-    if n == 0xb00 then Some Mcycle else
-    if n == 0xb80 then Some Mcycleh else
-    if n == 0xb02 then Some Minstret else
-    if n == 0xb82 then Some Minstreth else
-    if n == 0xc00 then Some Cycle else
-    if n == 0xc80 then Some Cycleh else
-    if n == 0xc01 then Some Time else
-    if n == 0xc81 then Some Timeh else
-    if n == 0xc02 then Some Instret else
-    if n == 0xc82 then Some Instreth else
+    if n == CSR_SSTATUS then Some Sstatus else
+    if n == CSR_SIE then Some Sie else
+    if n == CSR_STVEC then Some Stvec else
+    if n == CSR_SCOUNTEREN then Some Scounteren else
+    if n == CSR_SSCRATCH then Some Sscratch else
+    if n == CSR_SEPC then Some Sepc else
+    if n == CSR_SCAUSE then Some Scause else
+    if n == CSR_STVAL then Some Stval else
+    if n == CSR_SIP then Some Sip else
+    if n == CSR_SATP then Some Satp else
+    if n == CSR_MSTATUS then Some Mstatus else
+    if n == CSR_MISA then Some Misa else
+    if n == CSR_MEDELEG then Some Medeleg else
+    if n == CSR_MIDELEG then Some Mideleg else
+    if n == CSR_MIE then Some Mie else
+    if n == CSR_MTVEC then Some Mtvec else
+    if n == CSR_MCOUNTEREN then Some Mcounteren else
+    if n == CSR_MSCRATCH then Some Mscratch else
+    if n == CSR_MEPC then Some Mepc else
+    if n == CSR_MCAUSE then Some Mcause else
+    if n == CSR_MTVAL then Some Mtval else
+    if n == CSR_MIP then Some Mip else
+    if n == CSR_MCYCLE then Some Mcycle else
+    if n == CSR_MCYCLEH then Some Mcycleh else
+    if n == CSR_MINSTRET then Some Minstret else
+    if n == CSR_MINSTRETH then Some Minstreth else
+    if n == CSR_CYCLE then Some Cycle else
+    if n == CSR_CYCLEH then Some Cycleh else
+    if n == CSR_TIME then Some Time else
+    if n == CSR_TIMEH then Some Timeh else
+    if n == CSR_INSTRET then Some Instret else
+    if n == CSR_INSTRETH then Some Instreth else
     if has_no_effect n then Some NoEffect else
     None

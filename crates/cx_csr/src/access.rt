@@ -1,15 +1,25 @@
 //! Reading and writing of control and status registers by their numbers.
 
-ghost use Rattle.std.specs.Prelude.{◌≡◌, ℕ, ◌||◌, ◌^◌, true, false, if◌then◌else◌, is_err};
+ghost use Rattle.std.specs.Prelude.{◌≡◌, ℕ, ◌||◌, true, false, if◌then◌else◌, is_err, None};
 ghost use Rattle.cx_csr.specs.declared.state.State.{State};
-ghost use Rattle.cx_csr.specs.Access.{csr_read, is_illegal, is_above, is_read_only, is_trapped, is_counter, is_closed, is_closed_to_user, modify_base, written_at};
+ghost use Rattle.cx_csr.specs.Access.{csr_read, is_illegal, is_above, is_read_only, is_trapped, is_user_counter, is_closed, is_closed_to_user, modify_base, written_at};
 ghost use Rattle.cx_csr.specs.Keeps.{Keeps};
 ghost use Rattle.cx_csr.specs.Table.{register_at};
-ghost use Rattle.cx_csr.specs.Values.{read_as, status_written, written};
+ghost use Rattle.cx_csr.specs.Values.{csr_written, read_as, status_written};
 
 use crate::bits::{high_half, is_bit_set, joined, low_half, replace_bits};
+use crate::causes::DELEGABLE_EXCEPTIONS;
+use crate::fields::{COUNTEREN_FIELDS, EPC_FIELDS, MISA, TVEC_FIELDS};
+use crate::interrupts::{ALL_INTERRUPTS, SEI, SSI, SUPERVISOR_INTERRUPTS};
+use crate::modes::{MACHINE, SUPERVISOR, USER};
+use crate::numbers::{
+    CSR_CYCLE, CSR_CYCLEH, CSR_HPMCOUNTER31, CSR_HPMCOUNTER31H, CSR_MIP, CSR_SATP,
+};
 use crate::register::Register;
 use crate::state::{CsrFile, State};
+use crate::status::{
+    MPP_FIELD, MPP_RESERVED, MSTATUS_FIELDS, MSTATUS_FIELDS_BUT_MPP, SSTATUS_FIELDS, TVM,
+};
 
 /// What a read of a register answers.
 #[derive(Clone, Copy, PartialEq, Eq, Debug)]
@@ -29,19 +39,24 @@ pub enum Csr {
 #[derive(Clone, Copy, PartialEq, Eq, Debug)]
 pub struct Illegal;
 
+/// Whether an access to the register of this number is illegal, be it one that writes or one that reads alone.
+#[tactic(auto, unfolding(crate::specs::Access::is_illegal))]
+pub fn is_illegal(state: &State, number: u16, writes: bool) -> bool
+    ensures { result ≡ is_illegal writes state.now number }
+{
+    accessed(state, number, writes).is_none()
+}
+
 /// Reads the register of this number: its value, that the time is asked, or that the read is illegal, which it is for
 /// each reason but that the register is read only.
 #[tactic(auto, unfolding(crate::specs::Access::csr_read, crate::specs::Access::is_illegal))]
 pub fn read(state: &State, number: u16) -> Csr
     ensures { result ≡ csr_read state.now number }
 {
-    let Some(register) = Register::at(number) else {
-        return Csr::Illegal;
-    };
-    if is_barred(state, number) {
-        return Csr::Illegal;
+    match accessed(state, number, false) {
+        Some(register) => value_of(state, register),
+        None => Csr::Illegal,
     }
-    value_of(state, register)
 }
 
 /// Writes the register of this number, which keeps the bits that it has. An illegal write changes nothing, and no write
@@ -53,12 +68,9 @@ pub fn write(state: &mut State, number: u16, value: u32) -> Result<(), Illegal>
     ensures keeps { (pages : ℕ) → Keeps pages state.old → Keeps pages state.new }
     ensures reservation { state.new.reservation ≡ state.old.reservation }
 {
-    let Some(register) = Register::at(number) else {
+    let Some(register) = accessed(state, number, true) else {
         return Err(Illegal);
     };
-    if (number >> 10) & 3 == 3 || is_barred(state, number) {
-        return Err(Illegal);
-    }
     put(&mut state.csr, register, value);
     Ok(())
 }
@@ -68,10 +80,28 @@ pub fn write(state: &mut State, number: u16, value: u32) -> Result<(), Illegal>
 pub fn base_to_modify(state: &State, number: u16, value: u32) -> u32
     ensures { result ≡ modify_base state.now number value }
 {
-    if number != 0x344 {
+    if number != CSR_MIP {
         return value;
     }
-    replace_bits(value, 0x200, state.csr.mip)
+    replace_bits(value, 1 << SEI, state.csr.mip)
+}
+
+/// The register of this number, where such an access to it is legal.
+#[tactic(auto, unfolding(crate::specs::Access::is_illegal))]
+fn accessed(state: &State, number: u16, writes: bool) -> Option<Register>
+    ensures { result ≡ (if is_illegal writes state.now number then None else register_at number) }
+{
+    let register = Register::at(number)?;
+    if writes && is_read_only(number) || is_barred(state, number) {
+        return None;
+    }
+    Some(register)
+}
+
+fn is_read_only(number: u16) -> bool
+    ensures { result ≡ is_read_only number }
+{
+    (number >> 10) & 3 == 3
 }
 
 /// Whether an access to a register that is there is illegal, be it a read or a write.
@@ -79,8 +109,8 @@ fn is_barred(state: &State, number: u16) -> bool
     ensures { result ≡ (is_above state.now number || is_trapped state.now number || is_closed state.now number || is_closed_to_user state.now number) }
 {
     is_above_mode(state, number)
-        || number == 0x180 && state.mode == 1 && is_bit_set(state.csr.mstatus, 20)
-        || is_counter_of_user(number) && is_counter_closed(state, number)
+        || number == CSR_SATP && state.mode == SUPERVISOR && is_bit_set(state.csr.mstatus, TVM)
+        || is_user_counter(number) && is_counter_closed(state, number)
 }
 
 fn is_above_mode(state: &State, number: u16) -> bool
@@ -89,20 +119,20 @@ fn is_above_mode(state: &State, number: u16) -> bool
     (state.mode as u16) < (number >> 8) & 3
 }
 
-fn is_counter_of_user(number: u16) -> bool
-    ensures { result ≡ is_counter number }
+fn is_user_counter(number: u16) -> bool
+    ensures { result ≡ is_user_counter number }
 {
-    matches!(number, 0xc00..=0xc1f | 0xc80..=0xc9f)
+    matches!(number, CSR_CYCLE..=CSR_HPMCOUNTER31 | CSR_CYCLEH..=CSR_HPMCOUNTER31H)
 }
 
 /// Whether a counter of this number may not be read in the mode that stands.
 fn is_counter_closed(state: &State, number: u16) -> bool
-    requires { is_counter number ≡ true }
+    requires { is_user_counter number ≡ true }
     ensures { result ≡ (is_closed state.now number || is_closed_to_user state.now number) }
 {
     let bit = (number & 31) as u32;
-    state.mode < 3 && !is_bit_set(state.csr.mcounteren, bit)
-        || state.mode == 0 && !is_bit_set(state.csr.scounteren, bit)
+    state.mode < MACHINE && !is_bit_set(state.csr.mcounteren, bit)
+        || state.mode == USER && !is_bit_set(state.csr.scounteren, bit)
 }
 
 /// What the register reads as.
@@ -111,7 +141,7 @@ fn value_of(state: &State, register: Register) -> Csr
 {
     let csr = &state.csr;
     Csr::Value(match register {
-        Register::Sstatus => csr.mstatus & 0x000c_0122,
+        Register::Sstatus => csr.mstatus & SSTATUS_FIELDS,
         Register::Sie => csr.mie & csr.mideleg,
         Register::Stvec => csr.stvec,
         Register::Scounteren => csr.scounteren,
@@ -122,7 +152,7 @@ fn value_of(state: &State, register: Register) -> Csr
         Register::Sip => (csr.mip | state.lines.0) & csr.mideleg,
         Register::Satp => csr.satp,
         Register::Mstatus => csr.mstatus,
-        Register::Misa => 0x4014_1101,
+        Register::Misa => MISA,
         Register::Medeleg => csr.medeleg,
         Register::Mideleg => csr.mideleg,
         Register::Mie => csr.mie,
@@ -145,30 +175,30 @@ fn value_of(state: &State, register: Register) -> Csr
 
 /// Writes the register: the bits that it has are taken from the value.
 fn put(csr: &mut CsrFile, register: Register, value: u32)
-    ensures { csr.new ≡ written register value csr.old }
+    ensures { csr.new ≡ csr_written register value csr.old }
 {
     match register {
-        Register::Sstatus => csr.mstatus = replace_bits(csr.mstatus, 0x000c_0122, value),
+        Register::Sstatus => csr.mstatus = replace_bits(csr.mstatus, SSTATUS_FIELDS, value),
         Register::Sie => csr.mie = replace_bits(csr.mie, csr.mideleg, value),
-        Register::Stvec => csr.stvec = value & 0xffff_fffd,
-        Register::Scounteren => csr.scounteren = value & 7,
+        Register::Stvec => csr.stvec = value & TVEC_FIELDS,
+        Register::Scounteren => csr.scounteren = value & COUNTEREN_FIELDS,
         Register::Sscratch => csr.sscratch = value,
-        Register::Sepc => csr.sepc = value & 0xffff_fffc,
+        Register::Sepc => csr.sepc = value & EPC_FIELDS,
         Register::Scause => csr.scause = value,
         Register::Stval => csr.stval = value,
-        Register::Sip => csr.mip = replace_bits(csr.mip, csr.mideleg & 2, value),
+        Register::Sip => csr.mip = replace_bits(csr.mip, csr.mideleg & 1 << SSI, value),
         Register::Satp => csr.satp = value,
         Register::Mstatus => csr.mstatus = status_after(csr.mstatus, value),
-        Register::Medeleg => csr.medeleg = value & 0xb3ff,
-        Register::Mideleg => csr.mideleg = value & 0x222,
-        Register::Mie => csr.mie = value & 0xaaa,
-        Register::Mtvec => csr.mtvec = value & 0xffff_fffd,
-        Register::Mcounteren => csr.mcounteren = value & 7,
+        Register::Medeleg => csr.medeleg = value & DELEGABLE_EXCEPTIONS,
+        Register::Mideleg => csr.mideleg = value & SUPERVISOR_INTERRUPTS,
+        Register::Mie => csr.mie = value & ALL_INTERRUPTS,
+        Register::Mtvec => csr.mtvec = value & TVEC_FIELDS,
+        Register::Mcounteren => csr.mcounteren = value & COUNTEREN_FIELDS,
         Register::Mscratch => csr.mscratch = value,
-        Register::Mepc => csr.mepc = value & 0xffff_fffc,
+        Register::Mepc => csr.mepc = value & EPC_FIELDS,
         Register::Mcause => csr.mcause = value,
         Register::Mtval => csr.mtval = value,
-        Register::Mip => csr.mip = value & 0x222,
+        Register::Mip => csr.mip = value & SUPERVISOR_INTERRUPTS,
         Register::Mcycle => csr.mcycle = joined(value, high_half(csr.mcycle)),
         Register::Mcycleh => csr.mcycle = joined(low_half(csr.mcycle), value),
         Register::Minstret => csr.minstret = joined(value, high_half(csr.minstret)),
@@ -184,8 +214,8 @@ fn put(csr: &mut CsrFile, register: Register, value: u32)
 fn status_after(old: u32, value: u32) -> u32
     ensures { result ≡ status_written value old }
 {
-    if value & 0x1800 == 0x1000 {
-        return replace_bits(old, 0x007e_01aa, value);
+    if value & MPP_FIELD == MPP_RESERVED {
+        return replace_bits(old, MSTATUS_FIELDS_BUT_MPP, value);
     }
-    value & 0x007e_19aa
+    value & MSTATUS_FIELDS
 }

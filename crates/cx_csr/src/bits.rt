@@ -1,7 +1,9 @@
-//! Bits and halves of words.
+//! Bits and halves of words, and MPP.
 
 ghost use Rattle.std.specs.Prelude.{◌≡◌, ◌+◌, ◌*◌, ◌%◌, ◌/◌, ◌^◌, ◌<◌};
-ghost use Rattle.cx_csr.specs.Bits.{is_set, with_bits};
+ghost use Rattle.cx_csr.specs.Bits.{is_set, previous_of_machine, with_bits};
+
+use crate::status::MPP;
 
 /// Whether this bit of the word is 1.
 #[inline]
@@ -10,6 +12,14 @@ pub fn is_bit_set(word: u32, bit: u32) -> bool
     ensures { result ≡ is_set word bit }
 {
     (word >> bit) & 1 == 1
+}
+
+/// The mode before the last trap to machine mode: MPP of this value of `mstatus`.
+#[inline]
+pub fn previous_of_machine(status: u32) -> u8
+    ensures { result ≡ previous_of_machine status }
+{
+    ((status >> MPP) & 3) as u8
 }
 
 /// The word with its bits under the mask taken from the value.

@@ -12,6 +12,7 @@ ghost use Rattle.cx_csr.specs.Words.{state_of, words_of};
 
 use crate::access::Csr;
 use crate::state::State;
+use cx_map::MOST_PAGES;
 
 /// Two states that keep the rules and have the same words are equal.
 pub fn words_determine_the_state()
@@ -22,7 +23,7 @@ pub fn words_determine_the_state()
 pub fn words_fit()
     ensures fit { (pages : ℕ) (s : State) → Keeps pages s → AllFit pages (words_of s) }
     ensures count { (pages : ℕ) (s : State) → Keeps pages s → length (words_of s) ≡ 58 }
-    ensures wide { (pages : ℕ) (s : State) → pages ≤ 262144 → Keeps pages s → All (λ w. w < 2 ^ 32) (words_of s) }
+    ensures wide { (pages : ℕ) (s : State) → pages ≤ MOST_PAGES → Keeps pages s → All (λ w. w < 2 ^ 32) (words_of s) }
 {}
 
 /// 58 words of 32 bits that all obey their rules are the words of a state that keeps the rules.
@@ -33,8 +34,7 @@ pub fn fitting_words_are_a_state()
 
 /// The words of a state that keeps the rules read back as that state.
 pub fn words_read_back(state: &State, pages: u32) -> Result<State, u8>
-    requires high { pages ≤ 262144 }
-    requires keeps { Keeps pages state.now }
+    requires { Keeps pages state.now }
     ensures { result ≡ Ok state.now }
 {
     State::from_words(&state.to_words(), pages)
@@ -45,10 +45,14 @@ pub fn more_pages_keep()
     ensures { (p q : ℕ) (s : State) → p ≤ q → Keeps p s → Keeps q s }
 {}
 
-/// The words of a state that keeps the rules stand for that state, and each passes the test of its rule.
+/// The words of a state that keeps the rules stand for that state.
 pub fn state_stands_behind_its_words()
-    ensures state { (pages : ℕ) (s : State) → Keeps pages s → state_of (words_of s) ≡ s }
-    ensures tests { (pages before word : ℕ) (rule : Rule) → Admits pages before rule word → admits pages before rule word ≡ true }
+    ensures { (pages : ℕ) (s : State) → Keeps pages s → state_of (words_of s) ≡ s }
+{}
+
+/// A word passes the test of a rule exactly where it obeys the rule.
+pub fn tests_are_rules()
+    ensures { (pages before word : ℕ) (rule : Rule) → IsTrue (admits pages before rule word) ↔ Admits pages before rule word }
 {}
 
 /// A read is illegal exactly for its reasons, and every other read answers.

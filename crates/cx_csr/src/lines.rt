@@ -1,7 +1,9 @@
 //! The interrupt lines that the outside drives.
 
-ghost use Rattle.std.specs.Prelude.{⊤, [], ◌∷◌, codes};
+ghost use Rattle.std.specs.Prelude.{⊤, [], ◌∷◌, ◌^◌, codes};
+ghost use Rattle.cx_csr.specs.declared.interrupts.TheConstants.{MSI, MTI, SEI, MEI};
 
+use crate::interrupts::{MEI, MSI, MTI, SEI};
 use bitflags::{Flag, Flags, bitflag_items};
 
 /// The four interrupt lines from the devices to the hart, each at its bit of `mip` (Privileged 1.12, section 3.1.9).
@@ -15,13 +17,13 @@ pub struct Lines(
 bitflag_items! {
     impl Lines: u32 {
         /// The software interrupt of machine mode.
-        const MSIP = 0x008;
+        const MSIP = 1 << MSI;
         /// The timer interrupt of machine mode.
-        const MTIP = 0x080;
+        const MTIP = 1 << MTI;
         /// The external interrupt of supervisor mode.
-        const SEIP = 0x200;
+        const SEIP = 1 << SEI;
         /// The external interrupt of machine mode.
-        const MEIP = 0x800;
+        const MEIP = 1 << MEI;
     }
 }
 
@@ -30,7 +32,7 @@ impl Flags for Lines {
 
     ghost exact = { ⊤ };
 
-    ghost table = { (codes "MSIP", 0x008) ∷ (codes "MTIP", 0x080) ∷ (codes "SEIP", 0x200) ∷ (codes "MEIP", 0x800) ∷ [] };
+    ghost table = { (codes "MSIP", 2 ^ MSI) ∷ (codes "MTIP", 2 ^ MTI) ∷ (codes "SEIP", 2 ^ SEI) ∷ (codes "MEIP", 2 ^ MEI) ∷ [] };
 
     ghost set_of = { λ lines. lines.0 };
 

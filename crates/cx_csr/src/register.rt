@@ -3,6 +3,8 @@
 ghost use Rattle.std.specs.Prelude.{◌≡◌};
 ghost use Rattle.cx_csr.specs.Table.{register_at, has_no_effect};
 
+use crate::numbers::*;
+
 /// A control and status register that this hart has, by its name in the Privileged Architecture 1.12 (section 2.2).
 #[derive(Clone, Copy, PartialEq, Eq, Debug)]
 pub enum Register {
@@ -50,38 +52,38 @@ impl Register {
         ensures { result ≡ register_at number }
     {
         match number {
-            0x100 => Some(Register::Sstatus),
-            0x104 => Some(Register::Sie),
-            0x105 => Some(Register::Stvec),
-            0x106 => Some(Register::Scounteren),
-            0x140 => Some(Register::Sscratch),
-            0x141 => Some(Register::Sepc),
-            0x142 => Some(Register::Scause),
-            0x143 => Some(Register::Stval),
-            0x144 => Some(Register::Sip),
-            0x180 => Some(Register::Satp),
-            0x300 => Some(Register::Mstatus),
-            0x301 => Some(Register::Misa),
-            0x302 => Some(Register::Medeleg),
-            0x303 => Some(Register::Mideleg),
-            0x304 => Some(Register::Mie),
-            0x305 => Some(Register::Mtvec),
-            0x306 => Some(Register::Mcounteren),
-            0x340 => Some(Register::Mscratch),
-            0x341 => Some(Register::Mepc),
-            0x342 => Some(Register::Mcause),
-            0x343 => Some(Register::Mtval),
-            0x344 => Some(Register::Mip),
-            0xb00 => Some(Register::Mcycle),
-            0xb80 => Some(Register::Mcycleh),
-            0xb02 => Some(Register::Minstret),
-            0xb82 => Some(Register::Minstreth),
-            0xc00 => Some(Register::Cycle),
-            0xc80 => Some(Register::Cycleh),
-            0xc01 => Some(Register::Time),
-            0xc81 => Some(Register::Timeh),
-            0xc02 => Some(Register::Instret),
-            0xc82 => Some(Register::Instreth),
+            CSR_SSTATUS => Some(Register::Sstatus),
+            CSR_SIE => Some(Register::Sie),
+            CSR_STVEC => Some(Register::Stvec),
+            CSR_SCOUNTEREN => Some(Register::Scounteren),
+            CSR_SSCRATCH => Some(Register::Sscratch),
+            CSR_SEPC => Some(Register::Sepc),
+            CSR_SCAUSE => Some(Register::Scause),
+            CSR_STVAL => Some(Register::Stval),
+            CSR_SIP => Some(Register::Sip),
+            CSR_SATP => Some(Register::Satp),
+            CSR_MSTATUS => Some(Register::Mstatus),
+            CSR_MISA => Some(Register::Misa),
+            CSR_MEDELEG => Some(Register::Medeleg),
+            CSR_MIDELEG => Some(Register::Mideleg),
+            CSR_MIE => Some(Register::Mie),
+            CSR_MTVEC => Some(Register::Mtvec),
+            CSR_MCOUNTEREN => Some(Register::Mcounteren),
+            CSR_MSCRATCH => Some(Register::Mscratch),
+            CSR_MEPC => Some(Register::Mepc),
+            CSR_MCAUSE => Some(Register::Mcause),
+            CSR_MTVAL => Some(Register::Mtval),
+            CSR_MIP => Some(Register::Mip),
+            CSR_MCYCLE => Some(Register::Mcycle),
+            CSR_MCYCLEH => Some(Register::Mcycleh),
+            CSR_MINSTRET => Some(Register::Minstret),
+            CSR_MINSTRETH => Some(Register::Minstreth),
+            CSR_CYCLE => Some(Register::Cycle),
+            CSR_CYCLEH => Some(Register::Cycleh),
+            CSR_TIME => Some(Register::Time),
+            CSR_TIMEH => Some(Register::Timeh),
+            CSR_INSTRET => Some(Register::Instret),
+            CSR_INSTRETH => Some(Register::Instreth),
             _ if is_without_effect(number) => Some(Register::NoEffect),
             _ => None,
         }
@@ -93,8 +95,10 @@ impl Register {
 fn is_without_effect(number: u16) -> bool
     ensures { result ≡ has_no_effect number }
 {
-    matches!(number, 0x10a | 0x30a | 0x31a | 0x310 | 0x320)
-        || matches!(number, 0x323..=0x33f | 0x3a0..=0x3a3 | 0x3b0..=0x3bf)
-        || matches!(number, 0xb03..=0xb1f | 0xb83..=0xb9f)
-        || matches!(number, 0xc03..=0xc1f | 0xc83..=0xc9f | 0xf11..=0xf15)
+    matches!(
+        number,
+        CSR_SENVCFG | CSR_MENVCFG | CSR_MENVCFGH | CSR_MSTATUSH | CSR_MCOUNTINHIBIT
+    ) || matches!(number, CSR_MHPMEVENT3..=CSR_MHPMEVENT31 | CSR_PMPCFG0..=CSR_PMPCFG3 | CSR_PMPADDR0..=CSR_PMPADDR15)
+        || matches!(number, CSR_MHPMCOUNTER3..=CSR_MHPMCOUNTER31 | CSR_MHPMCOUNTER3H..=CSR_MHPMCOUNTER31H)
+        || matches!(number, CSR_HPMCOUNTER3..=CSR_HPMCOUNTER31 | CSR_HPMCOUNTER3H..=CSR_HPMCOUNTER31H | CSR_MVENDORID..=CSR_MCONFIGPTR)
 }

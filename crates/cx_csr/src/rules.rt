@@ -1,7 +1,14 @@
 //! The rules of the words of a state.
 
-ghost use Rattle.std.specs.Prelude.{◌≡◌, ◌<◌, ◌≤◌, IsTrue, ◌↔◌};
+ghost use Rattle.std.specs.Prelude.{◌≡◌, ◌<◌, IsTrue, ◌↔◌};
 ghost use Rattle.cx_csr.specs.Rules.{Admits, admits, rule_at};
+
+use crate::causes::DELEGABLE_EXCEPTIONS;
+use crate::fields::{COUNTEREN_FIELDS, TVEC_FIELDS};
+use crate::interrupts::{ALL_INTERRUPTS, LINE_INTERRUPTS, SUPERVISOR_INTERRUPTS};
+use crate::modes::{MACHINE, RESERVED_MODE};
+use crate::status::{MPP_FIELD, MPP_RESERVED, MSTATUS_FIELDS};
+use cx_map::{PAGE_SIZE, is_in_ram};
 
 /// What a word of a state may be.
 #[derive(Clone, Copy, PartialEq, Eq, Debug)]
@@ -60,20 +67,20 @@ static RULES: [Rule; 58] = [
     // mode, mstatus, medeleg, mideleg, mie, mip
     Rule::Mode,
     Rule::Status,
-    Rule::Within(0x0000_b3ff),
-    Rule::Within(0x0000_0222),
-    Rule::Within(0x0000_0aaa),
-    Rule::Within(0x0000_0222),
+    Rule::Within(DELEGABLE_EXCEPTIONS),
+    Rule::Within(SUPERVISOR_INTERRUPTS),
+    Rule::Within(ALL_INTERRUPTS),
+    Rule::Within(SUPERVISOR_INTERRUPTS),
     // mtvec, mcounteren, mscratch, mepc, mcause, mtval
-    Rule::Within(0xffff_fffd),
-    Rule::Within(0x0000_0007),
+    Rule::Within(TVEC_FIELDS),
+    Rule::Within(COUNTEREN_FIELDS),
     Rule::Any,
     Rule::Aligned,
     Rule::Any,
     Rule::Any,
     // stvec, scounteren, sscratch, sepc, scause, stval
-    Rule::Within(0xffff_fffd),
-    Rule::Within(0x0000_0007),
+    Rule::Within(TVEC_FIELDS),
+    Rule::Within(COUNTEREN_FIELDS),
     Rule::Any,
     Rule::Aligned,
     Rule::Any,
@@ -87,7 +94,7 @@ static RULES: [Rule; 58] = [
     // the reservation and the lines
     Rule::Flag,
     Rule::Place,
-    Rule::Within(0x0000_0a88),
+    Rule::Within(LINE_INTERRUPTS),
 ];
 
 impl Rule {
@@ -101,7 +108,6 @@ impl Rule {
 
     /// Whether the word obeys this rule, for RAM of so many pages; `before` is the word in front of it.
     pub fn admits(self, word: u32, before: u32, pages: u32) -> bool
-        requires { pages ≤ 262144 }
         ensures rule { IsTrue result ↔ Admits pages before self word }
         ensures test { result ≡ admits pages before self word }
     {
@@ -109,8 +115,8 @@ impl Rule {
             Rule::Any => true,
             Rule::Aligned => word % 4 == 0,
             Rule::Within(mask) => word & mask == word,
-            Rule::Mode => word <= 3 && word != 2,
-            Rule::Status => word & 0x007e_19aa == word && word & 0x1800 != 0x1000,
+            Rule::Mode => word <= MACHINE as u32 && word != RESERVED_MODE as u32,
+            Rule::Status => word & MSTATUS_FIELDS == word && word & MPP_FIELD != MPP_RESERVED,
             Rule::Flag => word <= 1,
             Rule::Place => admits_place(word, before, pages),
         }
@@ -119,12 +125,11 @@ impl Rule {
 
 /// Whether the word may be the place of the reservation behind this flag: 0 behind 0, else an aligned word of RAM.
 fn admits_place(word: u32, flag: u32, pages: u32) -> bool
-    requires { pages ≤ 262144 }
     ensures rule { IsTrue result ↔ Admits pages flag Rule.Place word }
     ensures test { result ≡ admits pages flag Rule.Place word }
 {
     if flag == 0 {
         return word == 0;
     }
-    word % 4 == 0 && word >= 0x8000_0000 && word - 0x8000_0000 < pages * 4096
+    word % 4 == 0 && is_in_ram(pages as usize * PAGE_SIZE, word, 4)
 }

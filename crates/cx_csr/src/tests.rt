@@ -1,4 +1,8 @@
 use super::*;
+use crate::modes::{MACHINE, SUPERVISOR, USER};
+use crate::numbers::*;
+use crate::status::TVM;
+use cx_map::RAM_START;
 use std::test::Fail;
 
 /// A state of zeros in this mode.
@@ -26,7 +30,7 @@ fn blank(mode: u8) -> State {
         minstret: 0,
     };
     State {
-        pc: 0x8000_0000,
+        pc: RAM_START,
         x: [0; 32],
         mode,
         csr,
@@ -35,7 +39,8 @@ fn blank(mode: u8) -> State {
     }
 }
 
-/// The legal numbers by ranges: first and last, the least mode that reads, and whether it may write too.
+/// The legal numbers by ranges, spelled out as the standard has them: first and last, the least mode that reads, and
+/// whether it may write too.
 const LEGAL: [(u16, u16, u8, bool); 23] = [
     (0x100, 0x100, 1, true),
     (0x104, 0x106, 1, true),
@@ -73,10 +78,10 @@ fn expected(number: u16, mode: u8) -> (bool, bool) {
     found
 }
 
-/// Each number from 0 to 4095 in each mode, with the counters open.
+/// With the counters open.
 #[test]
-fn legal_numbers(rt: HostRuntime) {
-    for mode in [0, 1, 3] {
+fn each_number_is_legal_in_the_modes_that_the_standard_gives_it(rt: HostRuntime) {
+    for mode in [USER, SUPERVISOR, MACHINE] {
         let mut state = blank(mode);
         state.csr.mcounteren = 7;
         state.csr.scounteren = 7;
@@ -94,47 +99,47 @@ fn legal_numbers(rt: HostRuntime) {
 
 /// What each register reads after a write of ones, and after one of zeros behind it.
 const WRITTEN: [(u16, u32); 35] = [
-    (0x300, 0x007e_19aa),
-    (0x301, 0x4014_1101),
-    (0x302, 0x0000_b3ff),
-    (0x303, 0x0000_0222),
-    (0x304, 0x0000_0aaa),
-    (0x305, 0xffff_fffd),
-    (0x306, 0x0000_0007),
-    (0x340, 0xffff_ffff),
-    (0x341, 0xffff_fffc),
-    (0x342, 0xffff_ffff),
-    (0x343, 0xffff_ffff),
-    (0x344, 0x0000_0222),
-    (0x100, 0x000c_0122),
-    (0x104, 0x0000_0222),
-    (0x105, 0xffff_fffd),
-    (0x106, 0x0000_0007),
-    (0x140, 0xffff_ffff),
-    (0x141, 0xffff_fffc),
-    (0x142, 0xffff_ffff),
-    (0x143, 0xffff_ffff),
-    (0x180, 0xffff_ffff),
-    (0xb00, 0xffff_ffff),
-    (0xb80, 0xffff_ffff),
-    (0xb02, 0xffff_ffff),
-    (0xb82, 0xffff_ffff),
-    (0x10a, 0),
-    (0x30a, 0),
-    (0x31a, 0),
-    (0x310, 0),
-    (0x320, 0),
-    (0x33f, 0),
-    (0x3a0, 0),
-    (0x3bf, 0),
-    (0xb1f, 0),
-    (0xb9f, 0),
+    (CSR_MSTATUS, 0x007e_19aa),
+    (CSR_MISA, 0x4014_1101),
+    (CSR_MEDELEG, 0x0000_b3ff),
+    (CSR_MIDELEG, 0x0000_0222),
+    (CSR_MIE, 0x0000_0aaa),
+    (CSR_MTVEC, 0xffff_fffd),
+    (CSR_MCOUNTEREN, 0x0000_0007),
+    (CSR_MSCRATCH, 0xffff_ffff),
+    (CSR_MEPC, 0xffff_fffc),
+    (CSR_MCAUSE, 0xffff_ffff),
+    (CSR_MTVAL, 0xffff_ffff),
+    (CSR_MIP, 0x0000_0222),
+    (CSR_SSTATUS, 0x000c_0122),
+    (CSR_SIE, 0x0000_0222),
+    (CSR_STVEC, 0xffff_fffd),
+    (CSR_SCOUNTEREN, 0x0000_0007),
+    (CSR_SSCRATCH, 0xffff_ffff),
+    (CSR_SEPC, 0xffff_fffc),
+    (CSR_SCAUSE, 0xffff_ffff),
+    (CSR_STVAL, 0xffff_ffff),
+    (CSR_SATP, 0xffff_ffff),
+    (CSR_MCYCLE, 0xffff_ffff),
+    (CSR_MCYCLEH, 0xffff_ffff),
+    (CSR_MINSTRET, 0xffff_ffff),
+    (CSR_MINSTRETH, 0xffff_ffff),
+    (CSR_SENVCFG, 0),
+    (CSR_MENVCFG, 0),
+    (CSR_MENVCFGH, 0),
+    (CSR_MSTATUSH, 0),
+    (CSR_MCOUNTINHIBIT, 0),
+    (CSR_MHPMEVENT31, 0),
+    (CSR_PMPCFG0, 0),
+    (CSR_PMPADDR15, 0),
+    (CSR_MHPMCOUNTER31, 0),
+    (CSR_MHPMCOUNTER31H, 0),
 ];
 
 #[test]
-fn ones_and_zeros(rt: HostRuntime) -> Result<(), Fail> {
-    let mut state = blank(3);
-    write(&mut state, 0x303, 0x222)?;
+fn ones_written_are_read_back_where_the_register_has_bits(rt: HostRuntime) -> Result<(), Fail> {
+    let mut state = blank(MACHINE);
+    write(&mut state, CSR_MIDELEG, 0x222)?;
     for (number, ones) in &WRITTEN {
         let old = read(&state, *number);
         write(&mut state, *number, 0xffff_ffff)?;
@@ -143,7 +148,7 @@ fn ones_and_zeros(rt: HostRuntime) -> Result<(), Fail> {
             Csr::Value(*ones),
             "ones to {number}"
         );
-        if *number != 0x303 {
+        if *number != CSR_MIDELEG {
             write(&mut state, *number, 0)?;
             assert_eq!(rt; read(&state, *number), old, "zeros to {number}");
         }
@@ -151,46 +156,45 @@ fn ones_and_zeros(rt: HostRuntime) -> Result<(), Fail> {
     Ok(())
 }
 
-/// Bits of one register that another shows or guards.
 #[test]
-fn registers_together(rt: HostRuntime) -> Result<(), Fail> {
-    let mut state = blank(3);
+fn bits_of_one_register_show_in_another_or_guard_it(rt: HostRuntime) -> Result<(), Fail> {
+    let mut state = blank(MACHINE);
     // A written MPP of 2 keeps the old one, here 1.
-    write(&mut state, 0x300, 0x0800)?;
-    write(&mut state, 0x300, 0x1008)?;
+    write(&mut state, CSR_MSTATUS, 0x0800)?;
+    write(&mut state, CSR_MSTATUS, 0x1008)?;
     assert_eq!(rt; state.csr.mstatus, 0x0808);
     // A line is seen in mip, and in sip where it is delegated; software's bit 9 alone is what CSRRS computes on.
     state.lines = Lines(0xa00);
-    write(&mut state, 0x344, 0x2)?;
-    write(&mut state, 0x303, 0x200)?;
-    assert_eq!(rt; read(&state, 0x344), Csr::Value(0xa02));
-    assert_eq!(rt; read(&state, 0x144), Csr::Value(0x200));
-    assert_eq!(rt; base_to_modify(&state, 0x344, 0xa02), 0x802);
-    assert_eq!(rt; base_to_modify(&state, 0x304, 0xa02), 0xa02);
+    write(&mut state, CSR_MIP, 0x2)?;
+    write(&mut state, CSR_MIDELEG, 0x200)?;
+    assert_eq!(rt; read(&state, CSR_MIP), Csr::Value(0xa02));
+    assert_eq!(rt; read(&state, CSR_SIP), Csr::Value(0x200));
+    assert_eq!(rt; base_to_modify(&state, CSR_MIP, 0xa02), 0x802);
+    assert_eq!(rt; base_to_modify(&state, CSR_MIE, 0xa02), 0xa02);
     // sip keeps bit 1 only where it is delegated.
-    write(&mut state, 0x144, 0)?;
+    write(&mut state, CSR_SIP, 0)?;
     assert_eq!(rt; state.csr.mip, 2);
-    write(&mut state, 0x303, 0x2)?;
-    write(&mut state, 0x144, 0)?;
+    write(&mut state, CSR_MIDELEG, 0x2)?;
+    write(&mut state, CSR_SIP, 0)?;
     assert_eq!(rt; state.csr.mip, 0);
     // The halves of a counter, and of the time.
-    write(&mut state, 0xb80, 5)?;
-    write(&mut state, 0xb00, 7)?;
+    write(&mut state, CSR_MCYCLEH, 5)?;
+    write(&mut state, CSR_MCYCLE, 7)?;
     assert_eq!(rt; state.csr.mcycle, 0x5_0000_0007);
-    assert_eq!(rt; read(&state, 0xc80), Csr::Value(5));
-    assert_eq!(rt; read(&state, 0xc01), Csr::Time { high: false });
-    assert_eq!(rt; read(&state, 0xc81), Csr::Time { high: true });
+    assert_eq!(rt; read(&state, CSR_CYCLEH), Csr::Value(5));
+    assert_eq!(rt; read(&state, CSR_TIME), Csr::Time { high: false });
+    assert_eq!(rt; read(&state, CSR_TIMEH), Csr::Time { high: true });
     // The counters' enables, and TVM.
-    state.mode = 0;
+    state.mode = USER;
     state.csr.mcounteren = 7;
     state.csr.scounteren = 5;
-    assert_eq!(rt; read(&state, 0xc01), Csr::Illegal);
-    assert_eq!(rt; read(&state, 0xc02), Csr::Value(0));
-    state.mode = 1;
-    assert_eq!(rt; read(&state, 0xc01), Csr::Time { high: false });
-    state.csr.mstatus = 1 << 20;
-    assert_eq!(rt; read(&state, 0x180), Csr::Illegal);
-    assert_eq!(rt; write(&mut state, 0x180, 1), Err(Illegal));
+    assert_eq!(rt; read(&state, CSR_TIME), Csr::Illegal);
+    assert_eq!(rt; read(&state, CSR_INSTRET), Csr::Value(0));
+    state.mode = SUPERVISOR;
+    assert_eq!(rt; read(&state, CSR_TIME), Csr::Time { high: false });
+    state.csr.mstatus = 1 << TVM;
+    assert_eq!(rt; read(&state, CSR_SATP), Csr::Illegal);
+    assert_eq!(rt; write(&mut state, CSR_SATP, 1), Err(Illegal));
     Ok(())
 }
 
@@ -202,54 +206,87 @@ fn with_word(words: [u32; 58], index: u8, word: u32) -> [u32; 58] {
     changed
 }
 
+// The words of a state by their indices.
+const PC: u8 = 0;
+
+const MODE: u8 = 32;
+
+const MSTATUS: u8 = 33;
+
+const MEDELEG: u8 = 34;
+
+const MIDELEG: u8 = 35;
+
+const MIE: u8 = 36;
+
+const MIP: u8 = 37;
+
+const MTVEC: u8 = 38;
+
+const MCOUNTEREN: u8 = 39;
+
+const MEPC: u8 = 41;
+
+const STVEC: u8 = 44;
+
+const SCOUNTEREN: u8 = 45;
+
+const SEPC: u8 = 47;
+
+const RESERVED: u8 = 55;
+
+const PLACE: u8 = 56;
+
+const LINES: u8 = 57;
+
 /// Words with one that breaks its rule, by index and value.
 const BAD: [(u8, u32); 24] = [
-    (0, 2),
-    (32, 2),
-    (32, 4),
-    (33, 1),
-    (33, 0x1000),
-    (34, 0x400),
-    (35, 1),
-    (36, 1),
-    (37, 8),
-    (38, 2),
-    (39, 8),
-    (41, 1),
-    (44, 2),
-    (45, 8),
-    (47, 2),
-    (55, 2),
-    (56, 0x8000_0000),
-    (57, 1),
-    (33, 0x0080_0000),
-    (34, 0x1_0000),
-    (41, 2),
-    (47, 1),
-    (56, 1),
-    (57, 0x1000),
+    (PC, 2),
+    (MODE, 2),
+    (MODE, 4),
+    (MSTATUS, 1),
+    (MSTATUS, 0x1000),
+    (MEDELEG, 0x400),
+    (MIDELEG, 1),
+    (MIE, 1),
+    (MIP, 8),
+    (MTVEC, 2),
+    (MCOUNTEREN, 8),
+    (MEPC, 1),
+    (STVEC, 2),
+    (SCOUNTEREN, 8),
+    (SEPC, 2),
+    (RESERVED, 2),
+    (PLACE, RAM_START),
+    (LINES, 1),
+    (MSTATUS, 0x0080_0000),
+    (MEDELEG, 0x1_0000),
+    (MEPC, 2),
+    (SEPC, 1),
+    (PLACE, 1),
+    (LINES, 0x1000),
 ];
 
 #[test]
-fn words_and_back(rt: HostRuntime) -> Result<(), Fail> {
-    let mut state = blank(1);
+fn words_read_back_and_the_first_bad_one_is_told(rt: HostRuntime) -> Result<(), Fail> {
+    let mut state = blank(SUPERVISOR);
     for i in 1..32usize {
         state.x[i] = 0x100 + i as u32;
     }
     state.csr.satp = 0x8008_0000;
     state.csr.mcycle = 0x1_0000_0002;
     state.csr.minstret = 0x3_0000_0004;
-    state.reservation = Some(0x8000_0ffc);
+    state.reservation = Some(RAM_START + 0xffc);
     state.lines = Lines::MTIP;
     let words = state.to_words();
-    assert_eq!(rt; &words[..4], [0x8000_0000, 0x101, 0x102, 0x103].as_slice());
+    assert_eq!(rt; &words[..4], [RAM_START, 0x101, 0x102, 0x103].as_slice());
     assert_eq!(rt; &words[31..33], [0x11f, 1].as_slice());
     assert_eq!(rt;
         &words[50..],
-        [0x8008_0000, 2, 1, 4, 3, 1, 0x8000_0ffc, 0x80].as_slice()
+        [0x8008_0000, 2, 1, 4, 3, 1, RAM_START + 0xffc, 0x80].as_slice()
     );
     assert_eq!(rt; State::from_words(&words, 1), Ok(state));
-    let plain = blank(3).to_words();
+    let plain = blank(MACHINE).to_words();
     for (index, word) in &BAD {
         let bad = with_word(plain, *index, *word);
         assert_eq!(rt;
@@ -260,12 +297,12 @@ fn words_and_back(rt: HostRuntime) -> Result<(), Fail> {
     }
     // The place of the reservation is judged against the pages.
     for (place, good) in [
-        (0x8000_0ffc, true),
-        (0x8000_1000, false),
-        (0x7fff_fffc, false),
-        (0x8000_0002, false),
+        (RAM_START + 0xffc, true),
+        (RAM_START + 0x1000, false),
+        (RAM_START - 4, false),
+        (RAM_START + 2, false),
     ] {
-        let reserved = with_word(with_word(plain, 55, 1), 56, place);
+        let reserved = with_word(with_word(plain, RESERVED, 1), PLACE, place);
         assert_eq!(rt;
             State::from_words(&reserved, 1).is_ok(),
             good,

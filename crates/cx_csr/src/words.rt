@@ -27,8 +27,7 @@ impl State {
     /// Whether a word may stand at this index, for RAM of `pages` pages; `before` is the word in front of it, which
     /// alone the place of the reservation is judged by.
     pub fn word_fits(index: u8, word: u32, before: u32, pages: u32) -> bool
-        requires place { index < 58 }
-        requires pages { pages ≤ 262144 }
+        requires { index < 58 }
         ensures rule { IsTrue result ↔ Admits pages before (rule_at index) word }
         ensures test { result ≡ admits pages before (rule_at index) word }
     {
@@ -37,7 +36,6 @@ impl State {
 
     /// The state that has these words. `Err(i)` where word i is the first that breaks its rule for RAM of `pages` pages.
     pub fn from_words(words: &[u32; 58], pages: u32) -> Result<State, u8>
-        requires { pages ≤ 262144 }
         ensures bad { IfErr result (IsFirstBad pages words.now) }
         ensures good { IfOk result (λ s. Keeps pages s × (words_of s ≡ words.now)) }
         ensures state { IfOk result (λ s. s ≡ state_of words.now) }
@@ -45,14 +43,23 @@ impl State {
     {
         match first_bad(words, pages) {
             Some(index) => Err(index),
-            None => Ok(made(words)),
+            None => Ok(State::from_fitting_words(words, pages)),
         }
+    }
+
+    /// The state that has these words, which all obey their rules for RAM of `pages` pages.
+    pub fn from_fitting_words(words: &[u32; 58], pages: u32) -> State
+        requires { AllFit pages words.now }
+        ensures state { result ≡ state_of words.now }
+        ensures keeps { Keeps pages result }
+        ensures words { words_of result ≡ words.now }
+    {
+        made(words)
     }
 }
 
 /// The first word that breaks its rule.
 fn first_bad(words: &[u32; 58], pages: u32) -> Option<u8>
-    requires { pages ≤ 262144 }
     ensures { MatchOption result (AllFit pages words.now) (IsFirstBad pages words.now) }
 {
     for index in 0..58u8 {

@@ -1,10 +1,10 @@
 -- What is a row's instruction wherever it is there, and isn't there only where no row matches, is what the table gives.
-use Rattle.std.proofs.Common.{◌≡◌, ℕ, Bool, true, false, cond, List, [], ◌∷◌, Option, Some, None, IfSome, IfNone, refl, sym, ◌∙◌, ap, eqb-true, eq-eqb}
+use Rattle.std.proofs.Common.{◌≡◌, ℕ, Bool, true, false, cond, List, [], ◌∷◌, Option, Some, None, IfSome, IfNone, refl, eqb-true, eq-eqb}
 use Rattle.std.specs.List.{find}
 use Rattle.std.specs.Option.{option_map}
 use Rattle.cx_decode.specs.Decoding.{all_ops, decoded, is_word_of_row}
 use Rattle.cx_decode.specs.Operands.{IsWordOf, ins_of}
-use Rattle.cx_decode.specs.Table.{Matches, MatchesNone, row_of}
+use Rattle.cx_decode.specs.Table.{Matches, MatchesNone}
 use Rattle.cx_decode.specs.declared.ins.Ins.{Ins}
 use Rattle.cx_decode.specs.declared.op.Op.{Op}
 use Rattle.cx_decode.proofs.Table.{Each, each, found_of_row}

@@ -8,9 +8,11 @@ ghost use Rattle.cx_decode.specs.Table.{Matches, MatchesNone};
 ghost use Rattle.cx_decode.specs.WellFormed.{WellFormed};
 ghost use Rattle.cx_decode.specs.declared.op.Op.{Op};
 
+use crate::format::Format;
 use crate::ins::Ins;
 use crate::op::Op;
-use crate::{operands, rows};
+use crate::operands::instruction;
+use crate::rows;
 
 /// The instruction of a word with the major opcode OP-IMM.
 fn computation(word: u32) -> Option<Ins>
@@ -19,15 +21,15 @@ fn computation(word: u32) -> Option<Ins>
     ensures none { IfNone result (MatchesNone word) }
 {
     match rows::minor(word) {
-        0 => Some(operands::immediate(Op::Addi, word)),
-        2 => Some(operands::immediate(Op::Slti, word)),
-        3 => Some(operands::immediate(Op::Sltiu, word)),
-        4 => Some(operands::immediate(Op::Xori, word)),
-        6 => Some(operands::immediate(Op::Ori, word)),
-        7 => Some(operands::immediate(Op::Andi, word)),
-        1 if word >> 25 == 0 => Some(operands::shift(Op::Slli, word)),
-        5 if word >> 25 == 0 => Some(operands::shift(Op::Srli, word)),
-        5 if word >> 25 == 0x20 => Some(operands::shift(Op::Srai, word)),
+        0 => Some(instruction(Format::Immediate, Op::Addi, word)),
+        2 => Some(instruction(Format::Immediate, Op::Slti, word)),
+        3 => Some(instruction(Format::Immediate, Op::Sltiu, word)),
+        4 => Some(instruction(Format::Immediate, Op::Xori, word)),
+        6 => Some(instruction(Format::Immediate, Op::Ori, word)),
+        7 => Some(instruction(Format::Immediate, Op::Andi, word)),
+        1 if word >> 25 == 0 => Some(instruction(Format::Shift, Op::Slli, word)),
+        5 if word >> 25 == 0 => Some(instruction(Format::Shift, Op::Srli, word)),
+        5 if word >> 25 == 0x20 => Some(instruction(Format::Shift, Op::Srai, word)),
         _ => None,
     }
 }
@@ -41,9 +43,9 @@ fn atomic(word: u32) -> Option<Ins>
     if rows::minor(word) != 2 {
         None
     } else if word >> 27 != 2 {
-        Some(operands::atomic(rows::atomic_op(word)?, word))
+        Some(instruction(Format::Atomic, rows::atomic_op(word)?, word))
     } else if (word >> 20) & 31 == 0 {
-        Some(operands::reserve(Op::LrW, word))
+        Some(instruction(Format::Reserve, Op::LrW, word))
     } else {
         None
     }
@@ -57,12 +59,16 @@ fn privileged(word: u32) -> Option<Ins>
     ensures none { IfNone result (MatchesNone word) }
 {
     match word {
-        0x0000_0073 => Some(operands::plain(Op::Ecall)),
-        0x0010_0073 => Some(operands::plain(Op::Ebreak)),
-        0x1020_0073 => Some(operands::plain(Op::Sret)),
-        0x3020_0073 => Some(operands::plain(Op::Mret)),
-        0x1050_0073 => Some(operands::plain(Op::Wfi)),
-        _ if word & 0xfe00_7fff == 0x1200_0073 => Some(operands::translation(Op::SfenceVma, word)),
+        0x0000_0073 => Some(instruction(Format::Plain, Op::Ecall, word)),
+        0x0010_0073 => Some(instruction(Format::Plain, Op::Ebreak, word)),
+        0x1020_0073 => Some(instruction(Format::Plain, Op::Sret, word)),
+        0x3020_0073 => Some(instruction(Format::Plain, Op::Mret, word)),
+        0x1050_0073 => Some(instruction(Format::Plain, Op::Wfi, word)),
+        _ if word & 0xfe00_7fff == 0x1200_0073 => Some(instruction(
+            Format::Translation,
+            Op::SfenceVma,
+            word,
+        )),
         _ => None,
     }
 }
@@ -75,12 +81,12 @@ fn system(word: u32) -> Option<Ins>
 {
     match rows::minor(word) {
         0 => privileged(word),
-        1 => Some(operands::control(Op::Csrrw, word)),
-        2 => Some(operands::control(Op::Csrrs, word)),
-        3 => Some(operands::control(Op::Csrrc, word)),
-        5 => Some(operands::control_immediate(Op::Csrrwi, word)),
-        6 => Some(operands::control_immediate(Op::Csrrsi, word)),
-        7 => Some(operands::control_immediate(Op::Csrrci, word)),
+        1 => Some(instruction(Format::Control, Op::Csrrw, word)),
+        2 => Some(instruction(Format::Control, Op::Csrrs, word)),
+        3 => Some(instruction(Format::Control, Op::Csrrc, word)),
+        5 => Some(instruction(Format::ControlImmediate, Op::Csrrwi, word)),
+        6 => Some(instruction(Format::ControlImmediate, Op::Csrrsi, word)),
+        7 => Some(instruction(Format::ControlImmediate, Op::Csrrci, word)),
         _ => None,
     }
 }
@@ -91,17 +97,17 @@ fn find(word: u32) -> Option<Ins>
     ensures none { IfNone result (MatchesNone word) }
 {
     match word & 0x7f {
-        0x03 => Some(operands::immediate(rows::load_op(word)?, word)),
-        0x0f => Some(operands::fence(rows::fence_op(word)?, word)),
+        0x03 => Some(instruction(Format::Immediate, rows::load_op(word)?, word)),
+        0x0f => Some(instruction(Format::Fence, rows::fence_op(word)?, word)),
         0x13 => computation(word),
-        0x17 => Some(operands::upper(Op::Auipc, word)),
-        0x23 => Some(operands::store(rows::store_op(word)?, word)),
+        0x17 => Some(instruction(Format::Upper, Op::Auipc, word)),
+        0x23 => Some(instruction(Format::Store, rows::store_op(word)?, word)),
         0x2f => atomic(word),
-        0x33 => Some(operands::register(rows::register_op(word)?, word)),
-        0x37 => Some(operands::upper(Op::Lui, word)),
-        0x63 => Some(operands::branch(rows::branch_op(word)?, word)),
-        0x67 => Some(operands::immediate(rows::jump_register_op(word)?, word)),
-        0x6f => Some(operands::jump(Op::Jal, word)),
+        0x33 => Some(instruction(Format::Register, rows::register_op(word)?, word)),
+        0x37 => Some(instruction(Format::Upper, Op::Lui, word)),
+        0x63 => Some(instruction(Format::Branch, rows::branch_op(word)?, word)),
+        0x67 => Some(instruction(Format::Immediate, rows::jump_register_op(word)?, word)),
+        0x6f => Some(instruction(Format::Jump, Op::Jal, word)),
         0x73 => system(word),
         _ => None,
     }

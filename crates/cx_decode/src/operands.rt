@@ -1,7 +1,7 @@
-//! The operands of a word, one function a format.
+//! The operands of a word.
 
 ghost use Rattle.std.specs.Prelude.{◌≡◌};
-ghost use Rattle.cx_decode.specs.Operands.{ins, operands, rd_of, rs1_of, rs2_of, i_immediate, s_immediate, b_immediate, u_immediate, j_immediate};
+ghost use Rattle.cx_decode.specs.Operands.{field, ins, operands, rd_of, rs1_of, rs2_of, i_immediate, s_immediate, b_immediate, u_immediate, j_immediate};
 
 use crate::format::Format;
 use crate::ins::Ins;
@@ -59,170 +59,56 @@ fn upper_bits(word: u32) -> u32
     (word >> 12) << 12
 }
 
-pub fn register(op: Op, word: u32) -> Ins
-    ensures { result ≡ operands Format.Register op word }
+fn distance(word: u32) -> u32
+    ensures { result ≡ field 24 20 word }
 {
-    Ins {
-        op,
-        rd: rd(word),
-        rs1: rs1(word),
-        rs2: rs2(word),
-        imm: 0,
+    (word >> 20) & 31
+}
+
+fn number(word: u32) -> u32
+    ensures { result ≡ field 31 20 word }
+{
+    word >> 20
+}
+
+fn order(word: u32) -> u32
+    ensures { result ≡ field 26 25 word }
+{
+    (word >> 25) & 3
+}
+
+/// The instruction of this row that a word spells, with the operands that lie in the word in this format.
+#[inline]
+pub fn instruction(format: Format, op: Op, word: u32) -> Ins
+    ensures { result ≡ operands format op word }
+{
+    match format {
+        Format::Register => ins(op, rd(word), rs1(word), rs2(word), 0),
+        Format::Immediate => ins(op, rd(word), rs1(word), 0, i_offset(word)),
+        Format::Shift => ins(op, rd(word), rs1(word), 0, distance(word)),
+        Format::Store => ins(op, 0, rs1(word), rs2(word), s_offset(word)),
+        Format::Branch => ins(op, 0, rs1(word), rs2(word), b_offset(word)),
+        Format::Upper => ins(op, rd(word), 0, 0, upper_bits(word)),
+        Format::Jump => ins(op, rd(word), 0, 0, j_offset(word)),
+        Format::Fence | Format::Control | Format::ControlImmediate => {
+            ins(op, rd(word), rs1(word), 0, number(word))
+        }
+        Format::Plain => ins(op, 0, 0, 0, 0),
+        Format::Translation => ins(op, 0, rs1(word), rs2(word), 0),
+        Format::Reserve => ins(op, rd(word), rs1(word), 0, order(word)),
+        Format::Atomic => ins(op, rd(word), rs1(word), rs2(word), order(word)),
     }
 }
 
-pub fn immediate(op: Op, word: u32) -> Ins
-    ensures { result ≡ operands Format.Immediate op word }
+#[inline]
+fn ins(op: Op, rd: u8, rs1: u8, rs2: u8, imm: u32) -> Ins
+    ensures { result ≡ ins op rd rs1 rs2 imm }
 {
     Ins {
         op,
-        rd: rd(word),
-        rs1: rs1(word),
-        rs2: 0,
-        imm: i_offset(word),
-    }
-}
-
-pub fn shift(op: Op, word: u32) -> Ins
-    ensures { result ≡ operands Format.Shift op word }
-{
-    Ins {
-        op,
-        rd: rd(word),
-        rs1: rs1(word),
-        rs2: 0,
-        imm: (word >> 20) & 31,
-    }
-}
-
-pub fn store(op: Op, word: u32) -> Ins
-    ensures { result ≡ operands Format.Store op word }
-{
-    Ins {
-        op,
-        rd: 0,
-        rs1: rs1(word),
-        rs2: rs2(word),
-        imm: s_offset(word),
-    }
-}
-
-pub fn branch(op: Op, word: u32) -> Ins
-    ensures { result ≡ operands Format.Branch op word }
-{
-    Ins {
-        op,
-        rd: 0,
-        rs1: rs1(word),
-        rs2: rs2(word),
-        imm: b_offset(word),
-    }
-}
-
-pub fn upper(op: Op, word: u32) -> Ins
-    ensures { result ≡ operands Format.Upper op word }
-{
-    Ins {
-        op,
-        rd: rd(word),
-        rs1: 0,
-        rs2: 0,
-        imm: upper_bits(word),
-    }
-}
-
-pub fn jump(op: Op, word: u32) -> Ins
-    ensures { result ≡ operands Format.Jump op word }
-{
-    Ins {
-        op,
-        rd: rd(word),
-        rs1: 0,
-        rs2: 0,
-        imm: j_offset(word),
-    }
-}
-
-pub fn fence(op: Op, word: u32) -> Ins
-    ensures { result ≡ operands Format.Fence op word }
-{
-    Ins {
-        op,
-        rd: rd(word),
-        rs1: rs1(word),
-        rs2: 0,
-        imm: word >> 20,
-    }
-}
-
-pub fn control(op: Op, word: u32) -> Ins
-    ensures { result ≡ operands Format.Control op word }
-{
-    Ins {
-        op,
-        rd: rd(word),
-        rs1: rs1(word),
-        rs2: 0,
-        imm: word >> 20,
-    }
-}
-
-pub fn control_immediate(op: Op, word: u32) -> Ins
-    ensures { result ≡ operands Format.ControlImmediate op word }
-{
-    Ins {
-        op,
-        rd: rd(word),
-        rs1: rs1(word),
-        rs2: 0,
-        imm: word >> 20,
-    }
-}
-
-pub fn plain(op: Op) -> Ins
-    ensures { result ≡ ins op 0 0 0 0 }
-{
-    Ins {
-        op,
-        rd: 0,
-        rs1: 0,
-        rs2: 0,
-        imm: 0,
-    }
-}
-
-pub fn translation(op: Op, word: u32) -> Ins
-    ensures { result ≡ operands Format.Translation op word }
-{
-    Ins {
-        op,
-        rd: 0,
-        rs1: rs1(word),
-        rs2: rs2(word),
-        imm: 0,
-    }
-}
-
-pub fn reserve(op: Op, word: u32) -> Ins
-    ensures { result ≡ operands Format.Reserve op word }
-{
-    Ins {
-        op,
-        rd: rd(word),
-        rs1: rs1(word),
-        rs2: 0,
-        imm: (word >> 25) & 3,
-    }
-}
-
-pub fn atomic(op: Op, word: u32) -> Ins
-    ensures { result ≡ operands Format.Atomic op word }
-{
-    Ins {
-        op,
-        rd: rd(word),
-        rs1: rs1(word),
-        rs2: rs2(word),
-        imm: (word >> 25) & 3,
+        rd,
+        rs1,
+        rs2,
+        imm,
     }
 }

@@ -4,7 +4,7 @@ use Rattle.cx_decode.specs.declared.ins.Ins.{Ins}
 use Rattle.cx_decode.specs.declared.op.Op.{Op}
 use Rattle.cx_decode.specs.declared.op.Op.TheVariants.{Lb, Lh, Lw, Lbu, Lhu, Sb, Sh, Sw, LrW, ScW, AmoswapW, AmoaddW, AmoxorW, AmoandW, AmoorW, AmominW, AmomaxW, AmominuW, AmomaxuW, Csrrw, Csrrs, Csrrc, Csrrwi, Csrrsi, Csrrci, Ecall, Ebreak, Sret, Mret}
 use Rattle.cx_exec.specs.Arithmetic.{wrapped}
-use Rattle.cx_exec.specs.Values.{number_of, values_of}
+use Rattle.cx_exec.specs.Values.{got_number, values_of}
 use Rattle.cx_exec.specs.declared.asks.Access.{Access}
 use Rattle.cx_exec.specs.declared.asks.Access.TheVariants.{Load as LoadAccess, Store as StoreAccess, Reserve as ReserveAccess, Conditional as ConditionalAccess, Amo as AmoAccess}
 use Rattle.cx_exec.specs.declared.asks.Ask.{Ask}
@@ -59,15 +59,15 @@ abbrev pub ask_of : Ins → ℕ → List ℕ → Ask
 ask_of i pc regs = row_ask i.op (values_of i pc regs NoAnswer)
 
 -- The answer is of the kind that was asked for; nothing answers a System row, which isn't carried out here.
-abbrev pub Answers : Ask → Got → Type 0
-Answers Nothing NoAnswer = Unit {0}
-Answers (Load va len) (Bytes value) = Unit {0}
-Answers (Store va len) NoAnswer = Unit {0}
-Answers (Reserve va) (Bytes value) = Unit {0}
-Answers (Conditional va) (Outcome outcome) = outcome < 2
-Answers (Amo va) (Bytes value) = Unit {0}
-Answers Csr (Old value) = Unit {0}
-Answers ask got = ⊥
+abbrev pub FitsAsk : Ask → Got → Type 0
+FitsAsk Nothing NoAnswer = Unit {0}
+FitsAsk (Load va len) (Bytes value) = Unit {0}
+FitsAsk (Store va len) NoAnswer = Unit {0}
+FitsAsk (Reserve va) (Bytes value) = Unit {0}
+FitsAsk (Conditional va) (Outcome outcome) = outcome < 2
+FitsAsk (Amo va) (Bytes value) = Unit {0}
+FitsAsk Csr (Old value) = Unit {0}
+FitsAsk ask got = ⊥
 
 -- The access to memory that an ask is for, if it is for one.
 abbrev pub need : Access → ℕ → ℕ → Option Need
@@ -81,15 +81,9 @@ need_of (Conditional va) = need ConditionalAccess va 4
 need_of (Amo va) = need AmoAccess va 4
 need_of ask = None
 
--- The access reads bytes, and it writes some. An SC writes where its outcome is 0.
-abbrev pub reads_memory : Ask → Bool
-reads_memory (Load va len) = true
-reads_memory (Reserve va) = true
-reads_memory (Amo va) = true
-reads_memory ask = false
-
+-- The access writes bytes. An SC does where its outcome is 0.
 abbrev pub writes_memory : Ask → Got → Bool
 writes_memory (Store va len) got = true
-writes_memory (Conditional va) got = number_of got == 0
+writes_memory (Conditional va) got = got_number got == 0
 writes_memory (Amo va) got = true
 writes_memory ask got = false

@@ -6,7 +6,7 @@ use Rattle.cx_decode.specs.declared.ins.Ins.{Ins}
 use Rattle.cx_decode.specs.declared.op.Op.{Op}
 use Rattle.cx_decode.specs.declared.op.Op.TheVariants.{Lui, Auipc, Jal, Jalr, Beq, Bne, Blt, Bge, Bltu, Bgeu, Lb, Lh, Lw, Lbu, Lhu, Sb, Sh, Sw, Addi, Slti, Sltiu, Xori, Ori, Andi, Slli, Srli, Srai, Add, Sub, Sll, Slt, Sltu, Xor, Srl, Sra, Or, And, Mul, Mulh, Mulhsu, Mulhu, Div, Divu, Rem, Remu, Fence, FenceI, Ecall, Ebreak, Sret, Mret, Wfi, SfenceVma, Csrrw, Csrrs, Csrrc, Csrrwi, Csrrsi, Csrrci, LrW, ScW, AmoswapW, AmoaddW, AmoxorW, AmoandW, AmoorW, AmominW, AmomaxW, AmominuW, AmomaxuW}
 use Rattle.cx_exec.specs.Arithmetic.{wrapped, signed, difference, truth, less_signed, lesser_signed, greater_signed, shifted_left, shifted_right, shifted_right_signed, upper_half, quotient_signed, quotient, remainder_signed, remainder}
-use Rattle.cx_exec.specs.Values.{values_of, written}
+use Rattle.cx_exec.specs.Values.{values_of, registers_with}
 use Rattle.cx_exec.specs.declared.effect.Done.{Done}
 use Rattle.cx_exec.specs.declared.effect.Effect.{Effect}
 use Rattle.cx_exec.specs.declared.effect.Misaligned.{Misaligned}
@@ -150,5 +150,5 @@ effect_of i pc regs got = row_effect i.op (values_of i pc regs got)
 
 -- The same with all registers once the value has gone to rd.
 abbrev pub done_of : List ℕ → Result Effect Misaligned → Result Done Misaligned
-done_of regs (Ok e) = Ok (record { regs = written regs e.rd e.value; pc = e.pc; write = e.write })
+done_of regs (Ok e) = Ok (record { regs = registers_with regs e.rd e.value; pc = e.pc; write = e.write })
 done_of regs (Err e) = Err e

@@ -7,14 +7,17 @@ use Rattle.cx_decode.specs.Table.{Matches}
 use Rattle.cx_decode.specs.declared.ins.Ins.{Ins}
 use Rattle.cx_decode.specs.declared.op.Op.{Op}
 use Rattle.cx_decode.specs.declared.op.Op.TheVariants.{Ecall, Ebreak, Mret, Sret, SfenceVma, Csrrw, Csrrs, Csrrc, Csrrwi, Csrrsi, Csrrci}
+use Rattle.cx_csr.specs.declared.numbers.TheConstants.{CSR_CYCLE, CSR_TIME, CSR_INSTRET, CSR_CYCLEH, CSR_TIMEH, CSR_INSTRETH}
 
--- The counters: cycle, time, instret and their high halves (Unprivileged ISA, 10.1).
-abbrev pub is_counter : ℕ → Bool
-is_counter number = (number == 0xc00) || (number == 0xc01) || (number == 0xc02) || (number == 0xc80) || (number == 0xc81) || (number == 0xc82)
+-- The counters that every hart has, and their high halves (Unprivileged ISA, 10.1).
+abbrev pub is_base_counter : ℕ → Bool
+is_base_counter number =
+    number == CSR_CYCLE || number == CSR_TIME || number == CSR_INSTRET
+    || number == CSR_CYCLEH || number == CSR_TIMEH || number == CSR_INSTRETH
 
 -- A control register is read and not written, and is a counter.
 abbrev pub reads_counter : ℕ → ℕ → Bool
-reads_counter rs1 number = (rs1 == 0) && is_counter number
+reads_counter rs1 number = (rs1 == 0) && is_base_counter number
 
 abbrev pub row_user_retires : Op → ℕ → ℕ → Bool
 row_user_retires Ecall rs1 imm = false

@@ -10,15 +10,15 @@ abbrev pub register : List ℕ → ℕ → ℕ
 register regs number = if number == 0 then 0 else slice_index regs number
 
 -- The registers once a value has gone to rd, which drops it where rd is 0.
-abbrev pub written : List ℕ → ℕ → ℕ → List ℕ
-written regs rd value = if rd == 0 then regs else slice_set regs rd value
+abbrev pub registers_with : List ℕ → ℕ → ℕ → List ℕ
+registers_with regs rd value = if rd == 0 then regs else slice_set regs rd value
 
 -- The number that was got, 0 where nothing was.
-abbrev pub number_of : Got → ℕ
-number_of Nothing = 0
-number_of (Bytes number) = number
-number_of (Outcome number) = number
-number_of (Old number) = number
+abbrev pub got_number : Got → ℕ
+got_number Nothing = 0
+got_number (Bytes number) = number
+got_number (Outcome number) = number
+got_number (Old number) = number
 
 abbrev pub values_of : Ins → ℕ → List ℕ → Got → Values
-values_of i pc regs got = record { rd = i.rd; pc = pc; a = register regs i.rs1; b = register regs i.rs2; imm = i.imm; got = number_of got }
+values_of i pc regs got = record { rd = i.rd; pc = pc; a = register regs i.rs1; b = register regs i.rs2; imm = i.imm; got = got_number got }

@@ -51,7 +51,7 @@ pub enum Ask {
 
 impl Ask {
     ghost use Rattle.std.specs.Prelude.{◌≡◌, ◌↔◌, IsTrue};
-    ghost use Rattle.cx_exec.specs.Asking.{Answers, need_of};
+    ghost use Rattle.cx_exec.specs.Asking.{FitsAsk, need_of};
 
     /// The access to memory that is asked for, if one is.
     pub fn need(self) -> Option<Need>
@@ -71,7 +71,7 @@ impl Ask {
     /// Whether an answer is of the kind that was asked for: bytes for a load, an LR or an AMO, an outcome of 0 or 1 for
     /// an SC, an old value for a control register, and nothing else for all others. Nothing answers `System`.
     pub fn is_answered_by(self, got: Got) -> bool
-        ensures { IsTrue result ↔ Answers self got }
+        ensures { IsTrue result ↔ FitsAsk self got }
     {
         match (self, got) {
             (Ask::Load { .. } | Ask::Reserve { .. } | Ask::Amo { .. }, Got::Bytes(_)) => true,

@@ -2,9 +2,9 @@
 
 ghost use Rattle.std.specs.Prelude.{◌≡◌, ◌<◌, IfOk, is_some};
 ghost use Rattle.cx_decode.specs.WellFormed.{WellFormed};
-ghost use Rattle.cx_exec.specs.Asking.{Answers, ask_of, writes_memory};
+ghost use Rattle.cx_exec.specs.Asking.{FitsAsk, ask_of, writes_memory};
 ghost use Rattle.cx_exec.specs.Effect.{done_of, effect_of};
-ghost use Rattle.cx_exec.specs.Values.{written};
+ghost use Rattle.cx_exec.specs.Values.{registers_with};
 
 use crate::arithmetic::{
     greater_signed, less_signed, lesser_signed, quotient, quotient_signed, remainder,
@@ -109,7 +109,7 @@ pub fn carry_out(ins: &Ins, pc: u32, regs: &[u32; 32], got: Got) -> Result<Effec
 /// A value goes to a register; register 0 drops it.
 pub fn put(regs: &mut [u32; 32], rd: u8, value: u32)
     requires { rd < 32 }
-    ensures { regs.new ≡ written regs.old rd value }
+    ensures { regs.new ≡ registers_with regs.old rd value }
 {
     if rd != 0 {
         regs[rd as usize] = value;
@@ -119,7 +119,7 @@ pub fn put(regs: &mut [u32; 32], rd: u8, value: u32)
 /// All registers, pc and the value stored once an instruction is carried out, as `carry_out` has it.
 pub fn finish(ins: &Ins, pc: u32, regs: &[u32; 32], got: Got) -> Result<Done, Misaligned>
     requires formed { WellFormed ins.now }
-    requires answered { Answers (ask_of ins.now pc regs.now) got }
+    requires answered { FitsAsk (ask_of ins.now pc regs.now) got }
     ensures { result ≡ done_of regs.now (effect_of ins.now pc regs.now got) }
 {
     match carry_out(ins, pc, regs, got) {

@@ -15,11 +15,11 @@ pub enum Got {
 
 impl Got {
     ghost use Rattle.std.specs.Prelude.{◌≡◌};
-    ghost use Rattle.cx_exec.specs.Values.{number_of};
+    ghost use Rattle.cx_exec.specs.Values.{got_number};
 
     /// The number that was got, 0 where nothing was.
     pub fn number(self) -> u32
-        ensures { result ≡ number_of self }
+        ensures { result ≡ got_number self }
     {
         match self {
             Got::Nothing => 0,

@@ -8,6 +8,7 @@ use crate::got::Got;
 use crate::needs::ask;
 use crate::results;
 use crate::user::user_word;
+use cx_csr::numbers::{CSR_CYCLE, CSR_MSCRATCH};
 use cx_decode::{Format, Ins, Op, decode, well_formed};
 use std::process::Abort;
 
@@ -110,9 +111,8 @@ fn rows_give_what_an_emulator_gives(rt: HostRuntime) {
     }
 }
 
-/// The rows that a program on an emulator doesn't show.
 #[test]
-fn the_other_rows(rt: HostRuntime) {
+fn the_rows_that_no_emulator_shows_give_what_the_standard_says(rt: HostRuntime) {
     for (op, imm, result) in [
         (Op::Lui, 0xfedc_b000, 0xfedc_b000),
         (Op::Auipc, 0x8000_0000, 0x0000_0100),
@@ -131,7 +131,15 @@ fn the_other_rows(rt: HostRuntime) {
         Op::Csrrsi,
         Op::Csrrci,
     ] {
-        check(&rt, instruction(op, 0xc00), 1, 2, Got::Old(7), 7, None);
+        check(
+            &rt,
+            instruction(op, CSR_CYCLE.into()),
+            1,
+            2,
+            Got::Old(7),
+            7,
+            None,
+        );
     }
     check(&rt, instruction(Op::LrW, 3), 1, 2, Got::Bytes(7), 7, None);
     check(
@@ -257,7 +265,7 @@ fn rows_ask_for_what_they_need(rt: HostRuntime) {
 
 /// A word; whether it reads a control register, whether it writes one, and whether user mode can retire it.
 #[test]
-fn control_registers_and_user_mode(rt: HostRuntime) {
+fn words_read_and_write_control_registers_and_retire_in_user_mode_as_they_say(rt: HostRuntime) {
     for (word, reads, writes, user) in [
         (0x3001_10f3, true, true, false), // csrrw x1, mstatus, x2
         (0x3001_1073, false, true, false), // csrrw x0, mstatus, x2
@@ -291,7 +299,7 @@ fn control_registers_and_user_mode(rt: HostRuntime) {
         (Op::Csrrc, 0xf0f0, 0x0f),
         (Op::Csrrci, 6, 0xf9),
     ] {
-        let ins = instruction(op, 0x340);
+        let ins = instruction(op, CSR_MSCRATCH.into());
         assert!(rt; well_formed(&ins), "{op:?}");
         assert_eq!(rt; control_operand(&ins, &regs), operand, "{op:?}");
         assert_eq!(rt; control_value(op, 0xff, operand), value, "{op:?}");

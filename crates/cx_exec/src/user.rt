@@ -1,15 +1,22 @@
 //! What user mode can retire.
 
 ghost use Rattle.std.specs.Prelude.{◌≡◌, ◌↔◌, IsTrue};
-ghost use Rattle.cx_exec.specs.User.{IsUserWord, is_counter, user_retires};
+ghost use Rattle.cx_exec.specs.User.{IsUserWord, is_base_counter, user_retires};
 
+use cx_csr::numbers::{CSR_CYCLE, CSR_CYCLEH, CSR_INSTRET, CSR_INSTRETH, CSR_TIME, CSR_TIMEH};
 use cx_decode::{Ins, Op, decode};
 
 /// The counters that user mode may read: cycle, time, instret and their high halves.
-fn is_counter(number: u32) -> bool
-    ensures { result ≡ is_counter number }
+fn is_base_counter(number: u32) -> bool
+    ensures { result ≡ is_base_counter number }
 {
-    matches!(number, 0xc00 | 0xc01 | 0xc02 | 0xc80 | 0xc81 | 0xc82)
+    let Ok(number) = u16::try_from(number) else {
+        return false;
+    };
+    matches!(
+        number,
+        CSR_CYCLE | CSR_TIME | CSR_INSTRET | CSR_CYCLEH | CSR_TIMEH | CSR_INSTRETH
+    )
 }
 
 /// Whether an instruction is one that user mode can retire: all but ECALL, EBREAK, MRET, SRET and SFENCE.VMA, and those
@@ -20,7 +27,7 @@ pub fn user_retires(ins: &Ins) -> bool
     match ins.op {
         Op::Ecall | Op::Ebreak | Op::Mret | Op::Sret | Op::SfenceVma | Op::Csrrw | Op::Csrrwi =>
             false,
-        Op::Csrrs | Op::Csrrc | Op::Csrrsi | Op::Csrrci => ins.rs1 == 0 && is_counter(ins.imm),
+        Op::Csrrs | Op::Csrrc | Op::Csrrsi | Op::Csrrci => ins.rs1 == 0 && is_base_counter(ins.imm),
         _ => true,
     }
 }

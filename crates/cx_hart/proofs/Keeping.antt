@@ -13,9 +13,9 @@ use Rattle.cx_trap.specs.Enter.{entered}
 use Rattle.cx_trap.proofs.KeptRules.{keeps-after_mret, keeps-after_sret, keeps-entered}
 use Rattle.cx_hart.specs.After.{after_control, after_effect, after_retired, after_trap}
 use Rattle.cx_hart.specs.Counters.{counted, with_cycle, with_retired, writes_cycle, writes_retired}
-use Rattle.cx_hart.specs.declared.turn.Control.{Control}
-use Rattle.cx_hart.specs.declared.turn.Control.TheVariants.{Untouched, Write, Mret, Sret}
-use Rattle.cx_hart.specs.declared.turn.Retired.{Retired}
+use Rattle.cx_hart.specs.declared.findings.Control.{Control}
+use Rattle.cx_hart.specs.declared.findings.Control.TheVariants.{Untouched, Write, Mret, Sret}
+use Rattle.cx_hart.specs.declared.findings.Retired.{Retired}
 use Rattle.cx_hart.proofs.Keepable.{FitsControl, IsKeepable}
 
 -- ---- counters

@@ -1,5 +1,5 @@
 -- What a turn finds can be carried out, and keeps the rules of the state.
-use Rattle.std.proofs.Common.{◌≡◌, ℕ, zero, suc, ◌+◌, ◌-◌, ◌*◌, ◌%◌, ◌^◌, ◌<◌, ◌≤◌, Bool, true, false, cond, nat_eq, nat_lt, List, length, All, Option, None, Some, Result, Ok, Err, IfSome, refl, ap, ◌∙◌, arith}
+use Rattle.std.proofs.Common.{◌≡◌, ℕ, zero, suc, ◌+◌, ◌-◌, ◌*◌, ◌%◌, ◌^◌, ◌<◌, ◌≤◌, Bool, true, false, cond, nat_eq, nat_lt, List, length, All, Result, Ok, Err, refl, ap, ◌∙◌, arith}
 use Rattle.std.specs.Prelude.{slice_index}
 use Rattle.std.proofs.lemmas.Nat.{pow-add}
 use Rattle.std.proofs.Math.Nat.{mul-le-mul_left, mul-suc, pow-le-pow_right}
@@ -15,15 +15,15 @@ use Rattle.cx_decode.specs.declared.ins.Ins.{Ins}
 use Rattle.cx_exec.specs.Effect.{effect_of}
 use Rattle.cx_exec.specs.declared.effect.Effect.{Effect}
 use Rattle.cx_exec.specs.declared.effect.Misaligned.{Misaligned}
-use Rattle.cx_exec.specs.Values.{number_of, values_of}
+use Rattle.cx_exec.specs.Values.{got_number, values_of}
 use Rattle.cx_exec.specs.declared.got.Got.{Got}
-use Rattle.cx_ram.specs.PhysicalMemory.{ram_index}
 use Rattle.cx_ram.proofs.LoadsAndWrites.{loaded-fits}
-use Rattle.cx_hart.specs.Accesses.{carried_out, effect_or_trap, whole_value}
-use Rattle.cx_hart.specs.Kept.{AreBytes}
-use Rattle.cx_hart.specs.Stretches.{IsRest}
-use Rattle.cx_hart.specs.Touches.{value_at}
-use Rattle.cx_hart.specs.declared.turn.Part.{Part}
+use Rattle.cx_map.specs.Bytes.{AreBytes}
+use Rattle.cx_map.specs.Map.{ram_index}
+use Rattle.cx_hart.specs.Accesses.{joined}
+use Rattle.cx_hart.specs.Effects.{effect_or_trap, instruction_effect}
+use Rattle.cx_hart.specs.Touches.{part_value}
+use Rattle.cx_hart.specs.declared.findings.Part.{Part}
 use Rattle.cx_hart.proofs.Effects.{InRange, IsEffect, IsOutcome, row_fits}
 use Rattle.cx_hart.proofs.Stops.{Comes}
 
@@ -80,7 +80,7 @@ register_fits x n true wide = omega arith
 register_fits x n false wide = register_fits_at x n wide
 
 -- the values of a well-formed instruction in a state that keeps the rules
-pub values_in_range : (pages : ℕ) (s : State) (i : Ins) (got : Got) → Keeps pages s → WellFormed i → number_of got < 2 ^ 32 → InRange (values_of i s.pc s.x got)
+pub values_in_range : (pages : ℕ) (s : State) (i : Ins) (got : Got) → Keeps pages s → WellFormed i → got_number got < 2 ^ 32 → InRange (values_of i s.pc s.x got)
 values_in_range pages s i got k formed small =
     let operands = formed_fits (row_of i.op).format i.rd i.rs1 i.rs2 i.imm formed in
     record {
@@ -96,13 +96,13 @@ outcome_comes : (r : Result Effect Misaligned) → IsOutcome r → Comes IsEffec
 outcome_comes (Ok e) is = is
 outcome_comes (Err misaligned) is = (refl, is)
 
-pub carried_out_comes : (pages : ℕ) (s : State) (i : Ins) (got : Got) → Keeps pages s → WellFormed i → number_of got < 2 ^ 32 → Comes IsEffect (carried_out s i got)
-carried_out_comes pages s i got k formed small =
+pub effect_comes : (pages : ℕ) (s : State) (i : Ins) (got : Got) → Keeps pages s → WellFormed i → got_number got < 2 ^ 32 → Comes IsEffect (instruction_effect s i got)
+effect_comes pages s i got k formed small =
     outcome_comes (effect_of i s.pc s.x got) (row_fits (values_of i s.pc s.x got) (values_in_range pages s i got k formed small) i.op)
 
 -- ---- bytes of RAM
 
-value_fits_in : (memory : List ℕ) (part : Part) → AreBytes memory → value_at memory part < 2 ^ (8 * part.len)
+value_fits_in : (memory : List ℕ) (part : Part) → AreBytes memory → part_value memory part < 2 ^ (8 * part.len)
 value_fits_in memory part bytes = loaded-fits memory (ram_index part.pa) part.len (λ k below. bytes (ram_index part.pa + k))
 
 wider : (n a b : ℕ) → a ≤ b → n < 2 ^ (8 * a) → n < 2 ^ (8 * b)
@@ -120,11 +120,10 @@ two_parts_fit low high a b one two =
     let step : 2 ^ (8 * a) * suc high ≡ 2 ^ (8 * a) * high + 2 ^ (8 * a) = mul-suc (2 ^ (8 * a)) high in
     rw whole (omega arith)
 
-pub whole_value_fits : (memory : List ℕ) (first : Part) (more : Option Part) → AreBytes memory → first.len ≤ 4 → IfSome more (IsRest (length memory) first) → whole_value memory first more < 2 ^ 32
-whole_value_fits memory first None bytes most rest = wider (value_at memory first) first.len 4 most (value_fits_in memory first bytes)
-whole_value_fits memory first (Some more) bytes most rest =
-    wider (whole_value memory first (Some more)) (first.len + more.len) 4 rest.whole
-    (two_parts_fit (value_at memory first) (value_at memory more) first.len more.len (value_fits_in memory first bytes) (value_fits_in memory more bytes))
+pub narrow_fits : (memory : List ℕ) (part : Part) → AreBytes memory → part.len ≤ 4 → part_value memory part < 2 ^ 32
+narrow_fits memory part bytes most = wider (part_value memory part) part.len 4 most (value_fits_in memory part bytes)
 
-pub word_fits : (memory : List ℕ) (part : Part) → AreBytes memory → part.len ≡ 4 → value_at memory part < 2 ^ 32
-word_fits memory part bytes four = wider (value_at memory part) part.len 4 (omega (arith, four)) (value_fits_in memory part bytes)
+pub joined_fits : (memory : List ℕ) (first more : Part) → AreBytes memory → first.len + more.len ≤ 4 → joined first (part_value memory first) (part_value memory more) < 2 ^ 32
+joined_fits memory first more bytes whole =
+    wider (joined first (part_value memory first) (part_value memory more)) (first.len + more.len) 4 whole
+    (two_parts_fit (part_value memory first) (part_value memory more) first.len more.len (value_fits_in memory first bytes) (value_fits_in memory more bytes))

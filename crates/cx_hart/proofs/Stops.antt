@@ -1,6 +1,5 @@
 -- A step that ends early ends in a cause that the hart has, and tells a word.
-use Rattle.std.proofs.Common.{ℕ, ◌+◌, ◌-◌, ◌^◌, ◌<◌, inl, inr, Bool, List, Option, Some, Result, Ok, Err, IfOk, IfErr, IsTrue, refl, sym, subst, arith}
-use Rattle.cx_csr.specs.declared.state.State.{State}
+use Rattle.std.proofs.Common.{ℕ, ◌+◌, ◌-◌, ◌^◌, ◌<◌, inl, inr, Option, Some, Result, Ok, Err, IfOk, IfErr, IsTrue, refl, sym, subst, arith}
 use Rattle.cx_exec.specs.declared.asks.Access.{Access}
 use Rattle.cx_exec.specs.declared.asks.Access.TheVariants as access
 use Rattle.cx_exec.specs.declared.asks.Need.{Need}
@@ -11,14 +10,16 @@ use Rattle.cx_walk.specs.declared.kind.Kind.{Kind}
 use Rattle.cx_walk.specs.declared.kind.Kind.TheVariants as kind
 use Rattle.cx_walk.specs.declared.walk.Place.{Place}
 use Rattle.cx_walk.proofs.Branches.{either}
-use Rattle.cx_hart.specs.Fetch.{fetched, place_or_trap, translated, walk_in}
-use Rattle.cx_hart.specs.Phases.{Phase, found, ◌>>=◌}
-use Rattle.cx_hart.specs.Reaching.{first_length, goes_on, is_aligned, is_split, kind_of, misaligned_cause, reached, reached_part, reached_rest, reached_split, reached_whole, second_address, target_at}
-use Rattle.cx_hart.specs.declared.turn.Part.{Part}
-use Rattle.cx_hart.specs.declared.turn.Stop.{Stop}
-use Rattle.cx_hart.specs.declared.turn.Stop.TheVariants.{Asks, Interrupt, Trap}
-use Rattle.cx_hart.specs.declared.turn.Target.{Target}
-use Rattle.cx_hart.specs.declared.turn.Target.TheVariants.{Memory}
+use Rattle.cx_hart.specs.Ends.{End, found, ◌>>=◌}
+use Rattle.cx_hart.specs.Fetch.{place_or_trap, translated, walk_in}
+use Rattle.cx_hart.specs.Phases.{Phase}
+use Rattle.cx_hart.specs.Reaching.{first_length, goes_on, is_naturally_aligned, is_split, kind_of, misaligned_cause, reached, reached_part, reached_rest, reached_split, reached_whole, second_address, target_at}
+use Rattle.cx_hart.specs.Surroundings.{Surroundings}
+use Rattle.cx_hart.specs.declared.findings.Part.{Part}
+use Rattle.cx_hart.specs.declared.findings.Stop.{Stop}
+use Rattle.cx_hart.specs.declared.findings.Stop.TheVariants.{Asks, Interrupt, Trap}
+use Rattle.cx_hart.specs.declared.findings.Target.{Target}
+use Rattle.cx_hart.specs.declared.findings.Target.TheVariants.{Memory}
 use Rattle.cx_hart.proofs.WalkFacts.{walk_in_faults}
 
 abbrev pub IsStop : Stop → Type 0
@@ -27,19 +28,19 @@ IsStop (Interrupt number) = IsTrue (is_cause (number + 2 ^ 31))
 IsStop (Trap cause tval) = IsTrue (is_cause cause) × (tval < 2 ^ 32)
 
 -- what holds of what a phase finds, and of where it ends
-abbrev pub Comes : {Y : Type 0} → (Y → Type 0) → Phase Y → Type 0
+abbrev pub Comes : {Y : Type 0} → (Y → Type 0) → End Y → Type 0
 Comes P (Ok y) = P y
 Comes P (Err stop) = IsStop stop
 
-pub comes_of : {Y : Type 0} (P : Y → Type 0) (p : Phase Y) → IfOk p P → IfErr p IsStop → Comes P p
+pub comes_of : {Y : Type 0} (P : Y → Type 0) (p : End Y) → IfOk p P → IfErr p IsStop → Comes P p
 comes_of P (Ok y) good stops = good
 comes_of P (Err stop) good stops = stops
 
-pub comes_bind : {Y Z : Type 0} (P : Y → Type 0) (Q : Z → Type 0) (p : Phase Y) (next : Y → Phase Z) → Comes P p → ((y : Y) → P y → Comes Q (next y)) → Comes Q (p >>= next)
+pub comes_bind : {Y Z : Type 0} (P : Y → Type 0) (Q : Z → Type 0) (p : End Y) (next : Y → End Z) → Comes P p → ((y : Y) → P y → Comes Q (next y)) → Comes Q (p >>= next)
 comes_bind P Q (Ok y) next one rest = rest y one
 comes_bind P Q (Err stop) next one rest = one
 
-stops_bind : {Y Z : Type 0} (p : Phase Y) (next : Y → Phase Z) → IfErr p IsStop → ((y : Y) → IfErr (next y) IsStop) → IfErr (p >>= next) IsStop
+pub stops_bind : {Y Z : Type 0} (p : End Y) (next : Y → End Z) → IfErr p IsStop → ((y : Y) → IfErr (next y) IsStop) → IfErr (p >>= next) IsStop
 stops_bind (Ok y) next one rest = rest y
 stops_bind (Err stop) next one rest = one
 
@@ -70,39 +71,36 @@ place_stops k va (Err cause) small fault = (fault_is_cause k cause fault, small)
 
 -- ---- phases
 
-module _ (memory : List ℕ) (s : State) where
-  translated_stops : (k : Kind) (va len : ℕ) → va < 2 ^ 32 → IfErr (translated memory s k va len) IsStop
-  translated_stops k va len small = place_stops k va (walk_in memory s k va len).answer small (walk_in_faults memory s k va len)
-
-  pub fetched_stops : s.pc < 2 ^ 32 → IfErr (fetched memory s) IsStop
-  unfolding fetched
-  fetched_stops small = stops_bind (translated memory s kind.Fetch s.pc 4) (λ place. found (record { va = s.pc; pa = address_of place; len = 4 })) (translated_stops kind.Fetch s.pc 4 small) (λ place. tt)
+module _ (here : Surroundings) where
+  pub translated_stops : (k : Kind) (va len : ℕ) → va < 2 ^ 32 → IfErr (translated here k va len).end IsStop
+  unfolding translated
+  translated_stops k va len small = place_stops k va (walk_in here k va len).answer small (walk_in_faults here k va len)
 
   module _ (n : Need) (small : n.va < 2 ^ 32) where
-    whole_stops : IfErr (reached_whole memory s n) IsStop
+    whole_stops : IfErr (reached_whole here n).end IsStop
     unfolding reached_whole
-    whole_stops = stops_bind (translated memory s (kind_of n.access) n.va n.len) (λ place. found (target_at n place)) (translated_stops (kind_of n.access) n.va n.len small) (λ place. tt)
+    whole_stops = stops_bind (translated here (kind_of n.access) n.va n.len).end (λ place. found (target_at n place)) (translated_stops (kind_of n.access) n.va n.len small) (λ place. tt)
 
-    part_stops : (va len : ℕ) → va < 2 ^ 32 → IfErr (reached_part memory s n va len) IsStop
+    part_stops : (va len : ℕ) → va < 2 ^ 32 → IfErr (reached_part here n va len).end IsStop
     part_stops va len low =
-        stops_bind (translated memory s (kind_of n.access) va 1) (λ place. found (record { va = va; pa = address_of place; len = len })) (translated_stops (kind_of n.access) va 1 low) (λ place. tt)
+        stops_bind (translated here (kind_of n.access) va 1).end (λ place. found (record { va = va; pa = address_of place; len = len })) (translated_stops (kind_of n.access) va 1 low) (λ place. tt)
 
-    rest_stops : IfErr (reached_rest memory s n) IsStop
+    rest_stops : IfErr (reached_rest here n).end IsStop
     rest_stops =
-        let P : Phase (Option Part) → Type 0 = λ p. IfErr p IsStop in
+        let P : Phase (Option Part) → Type 0 = λ p. IfErr p.end IsStop in
         either P (goes_on n) _ _
-        (λ on. stops_bind (reached_part memory s n (second_address n) (n.len - first_length n)) (λ part. found (Some part)) (part_stops (second_address n) (n.len - first_length n) (omega arith)) (λ part. tt))
+        (λ on. stops_bind (reached_part here n (second_address n) (n.len - first_length n)).end (λ part. found (Some part)) (part_stops (second_address n) (n.len - first_length n) (omega arith)) (λ part. tt))
         (λ ends. tt)
 
-    split_stops : IfErr (reached_split memory s n) IsStop
+    split_stops : IfErr (reached_split here n).end IsStop
     unfolding reached_split
     split_stops =
-        stops_bind (reached_part memory s n n.va (first_length n)) (λ first. reached_rest memory s n >>= λ more. found (Memory first more)) (part_stops n.va (first_length n) small)
-        (λ first. stops_bind (reached_rest memory s n) (λ more. found (Memory first more)) rest_stops (λ more. tt))
+        stops_bind (reached_part here n n.va (first_length n)).end (λ first. (reached_rest here n).end >>= λ more. found (Memory first more)) (part_stops n.va (first_length n) small)
+        (λ first. stops_bind (reached_rest here n).end (λ more. found (Memory first more)) rest_stops (λ more. tt))
 
-    pub reached_stops : (split : Bool) → IfErr (reached split memory s n) IsStop
+    pub reached_stops : IfErr (reached here n).end IsStop
     unfolding reached
-    reached_stops split =
-        let P : Phase Target → Type 0 = λ p. IfErr p IsStop in
-        either P (is_aligned n) _ _ (λ aligned. whole_stops)
-        (λ apart. either P (is_split split n) _ _ (λ parts. split_stops) (λ traps. (misaligned_is_cause n.access, small)))
+    reached_stops =
+        let P : Phase Target → Type 0 = λ p. IfErr p.end IsStop in
+        either P (is_naturally_aligned n) _ _ (λ aligned. whole_stops)
+        (λ apart. either P (is_split here.split n) _ _ (λ parts. split_stops) (λ traps. (misaligned_is_cause n.access, small)))

@@ -1,22 +1,24 @@
 -- The machine after a step.
-use Rattle.std.specs.Prelude.{ℕ, ◌+◌, ◌^◌, nat_le, if◌then◌else◌, List, take, Option, None, Some}
+use Rattle.std.specs.Prelude.{ℕ, ◌+◌, nat_le, if◌then◌else◌, List, take, Option, None, Some}
 use Rattle.cx_csr.specs.declared.state.State.{State}
 use Rattle.cx_csr.specs.Access.{written_at}
 use Rattle.cx_csr.specs.Table.{register_at}
-use Rattle.cx_exec.specs.Values.{written as register_written}
+use Rattle.cx_csr.specs.declared.causes.TheConstants.{INTERRUPT_BIT}
+use Rattle.cx_exec.specs.Values.{registers_with}
+use Rattle.cx_map.specs.Map.{ram_index}
+use Rattle.cx_map.specs.declared.TheConstants.{RAM_START}
 use Rattle.cx_ram.specs.LittleEndian.{written}
-use Rattle.cx_ram.specs.PhysicalMemory.{ram_index}
 use Rattle.cx_trap.specs.Enter.{entered}
 use Rattle.cx_trap.specs.Return.{after_mret, after_sret}
 use Rattle.cx_hart.specs.Counters.{with_cycle, with_retired}
 use Rattle.cx_hart.specs.declared.record.Touch.{Touch}
-use Rattle.cx_hart.specs.declared.turn.Control.{Control}
-use Rattle.cx_hart.specs.declared.turn.Control.TheVariants.{Untouched, Write, Mret, Sret}
-use Rattle.cx_hart.specs.declared.turn.Retired.{Retired}
+use Rattle.cx_hart.specs.declared.findings.Control.{Control}
+use Rattle.cx_hart.specs.declared.findings.Control.TheVariants.{Untouched, Write, Mret, Sret}
+use Rattle.cx_hart.specs.declared.findings.Retired.{Retired}
 
 -- the cause of a trap that an interrupt of this number is
 abbrev pub interrupt_cause : ℕ → ℕ
-interrupt_cause number = number + 2 ^ 31
+interrupt_cause number = number + INTERRUPT_BIT
 
 -- An exception or an interrupt was taken: a step that doesn't retire.
 unfoldable pub after_trap : ℕ → ℕ → State → State
@@ -31,15 +33,20 @@ after_control Sret s = after_sret s
 
 -- its register, pc and the reservation
 abbrev pub after_effect : Retired → State → State
-after_effect r s = record s { pc = r.effect.pc; x = register_written s.x r.effect.rd r.effect.value; reservation = r.reservation }
+after_effect r s = record s {
+  pc = r.effect.pc;
+  x = registers_with s.x r.effect.rd r.effect.value;
+  reservation = r.reservation;
+}
 
 unfoldable pub after_retired : Retired → State → State
 after_retired r s = with_retired r.control (with_cycle r.control (after_effect r (after_control r.control s)))
 
--- What is written to RAM, which begins at 2^31, stands there. A word of a device is below it and isn't memory.
+-- What is written to RAM stands there. A word of a device is below RAM and isn't memory.
 unfoldable pub memory_after_touch : Option Touch → List ℕ → List ℕ
 memory_after_touch None memory = memory
-memory_after_touch (Some t) memory = if nat_le (2 ^ 31) t.pa then written memory (ram_index t.pa) (take t.len t.bytes) else memory
+memory_after_touch (Some t) memory =
+    if nat_le RAM_START t.pa then written memory (ram_index t.pa) (take t.len t.bytes) else memory
 
 abbrev pub memory_after : Retired → List ℕ → List ℕ
 memory_after r memory = memory_after_touch r.write_more (memory_after_touch r.write memory)

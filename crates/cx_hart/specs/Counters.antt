@@ -1,9 +1,11 @@
--- The counters of a step (Privileged 1.12, 3.1.10): mcycle counts each step, minstret each that retires, both modulo 2^64.
--- A step that writes a half of one of them leaves it at what it wrote.
+-- The counters of a step (Privileged 1.12, 3.1.10): minstret counts each step that retires, modulo 2^64. That mcycle
+-- counts each step is this hart's own choice, as it has no clock. A step that writes a half of one of them leaves it
+-- at what it wrote.
 use Rattle.std.specs.Prelude.{ℕ, ◌+◌, ◌%◌, ◌^◌, Bool, false, ◌==◌, ◌||◌, if◌then◌else◌}
+use Rattle.cx_csr.specs.declared.numbers.TheConstants.{CSR_MCYCLE, CSR_MCYCLEH, CSR_MINSTRET, CSR_MINSTRETH}
 use Rattle.cx_csr.specs.declared.state.State.{State}
-use Rattle.cx_hart.specs.declared.turn.Control.{Control}
-use Rattle.cx_hart.specs.declared.turn.Control.TheVariants.{Untouched, Write, Mret, Sret}
+use Rattle.cx_hart.specs.declared.findings.Control.{Control}
+use Rattle.cx_hart.specs.declared.findings.Control.TheVariants.{Untouched, Write, Mret, Sret}
 
 abbrev pub writes_one_of : ℕ → ℕ → Control → Bool
 writes_one_of low high (Write number value) = number == low || number == high
@@ -12,10 +14,10 @@ writes_one_of low high Mret = false
 writes_one_of low high Sret = false
 
 abbrev pub writes_cycle : Control → Bool
-writes_cycle control = writes_one_of 0xb00 0xb80 control
+writes_cycle control = writes_one_of CSR_MCYCLE CSR_MCYCLEH control
 
 abbrev pub writes_retired : Control → Bool
-writes_retired control = writes_one_of 0xb02 0xb82 control
+writes_retired control = writes_one_of CSR_MINSTRET CSR_MINSTRETH control
 
 -- one more, unless it was written
 abbrev pub counted : Bool → ℕ → ℕ

@@ -1,26 +1,32 @@
--- The phases of a step: each ends the step, or finds what the next one goes on with.
-use Rattle.std.specs.Prelude.{ℕ, Option, None, Some, Result, Ok, Err}
-use Rattle.cx_hart.specs.declared.answer.Asked.{Asked}
-use Rattle.cx_hart.specs.declared.turn.Stop.{Stop}
-use Rattle.cx_hart.specs.declared.turn.Stop.TheVariants.{Asks, Trap}
+-- The phases of a step. Each carries what it has seen, and ends the step or finds what the next one goes on with.
+use Rattle.std.specs.Prelude.{ℕ, List, [], ◌∷◌, ◌++◌, Ok, Err}
+use Rattle.cx_hart.specs.Ends.{End, ◌>>=◌ as end_then}
+use Rattle.cx_hart.specs.Looks.{Look}
+use Rattle.cx_hart.specs.declared.findings.Stop.TheVariants.{Trap}
 
-abbrev pub Phase : Type 0 → Type 0
-Phase Y = Result Y Stop
+pub record Phase (Y : Type 0) : Type 0 where
+  pub looks : List Look
+  pub end : End Y
+
+-- what the next phase sees; nothing where this one ends the step
+abbrev pub looks_behind : {Y Z : Type 0} → End Y → (Y → Phase Z) → List Look
+looks_behind (Ok y) next = (next y).looks
+looks_behind (Err stop) next = []
 
 infixl 10 ◌>>=◌
 abbrev pub ◌>>=◌ : {Y Z : Type 0} → Phase Y → (Y → Phase Z) → Phase Z
-(Ok y) >>= next = next y
-(Err stop) >>= next = Err stop
+p >>= next = record { looks = p.looks ++ looks_behind p.end next; end = end_then p.end (λ y. (next y).end) }
 
--- the phase finds this
+-- a phase that sees nothing
+abbrev pub unseen : {Y : Type 0} → End Y → Phase Y
+unseen end = record { looks = []; end = end }
+
 abbrev pub found : {Y : Type 0} → Y → Phase Y
-found y = Ok y
+found y = unseen (Ok y)
 
--- the step ends in an exception (Privileged 1.12, 3.1.15 for the cause, 3.1.16 for what is told beside it)
 abbrev pub trap : {Y : Type 0} → ℕ → ℕ → Phase Y
-trap cause tval = Err (Trap cause tval)
+trap cause tval = unseen (Err (Trap cause tval))
 
--- a value of the outside, which the step asks for
-abbrev pub answered : Option ℕ → Asked → Phase ℕ
-answered None what = Err (Asks what)
-answered (Some value) what = Ok value
+-- a phase that looks once, and finds this
+abbrev pub sees : {Y : Type 0} → Look → Y → Phase Y
+sees look y = record { looks = look ∷ []; end = Ok y }

@@ -1,55 +1,74 @@
 -- One step of the machine: devices write to RAM, the lines change, and the hart takes its turn.
-use Rattle.std.specs.Prelude.{ℕ, Bool, List, Option, None, Some, Ok, Err}
+use Rattle.std.specs.Prelude.{ℕ, Bool, [], Option, None, Some, Ok, Err, replicate}
 use Rattle.cx_csr.specs.declared.state.State.{State}
+use Rattle.cx_machine.specs.Due.{Due, with_lines}
+use Rattle.cx_machine.specs.Machine.{MachineState}
+use Rattle.cx_machine.specs.Transfers.{after_transfers}
 use Rattle.cx_hart.specs.After.{after_retired, after_trap, interrupt_cause, memory_after}
-use Rattle.cx_hart.specs.Machine.{MachineState}
+use Rattle.cx_hart.specs.Ends.{End}
+use Rattle.cx_hart.specs.Looks.{told}
 use Rattle.cx_hart.specs.Phases.{Phase}
-use Rattle.cx_hart.specs.Records.{fetch_of_step, record_of, record_of_retired}
-use Rattle.cx_ram.specs.Transfers.{Transfer}
-use Rattle.cx_hart.specs.Transfers.{after_transfers, with_lines}
+use Rattle.cx_hart.specs.Surroundings.{Surroundings}
 use Rattle.cx_hart.specs.Turn.{turn}
-use Rattle.cx_hart.specs.Walked.{places_of_step}
 use Rattle.cx_hart.specs.declared.answer.Asked.{Asked}
-use Rattle.cx_hart.specs.declared.answer.Due.{Due}
+use Rattle.cx_hart.specs.declared.answer.Due.{Due as DueToHart}
 use Rattle.cx_hart.specs.declared.answer.StepAnswer.{StepAnswer}
 use Rattle.cx_hart.specs.declared.answer.StepAnswer.TheVariants as answer
+use Rattle.cx_hart.specs.declared.answer.Went.{Went}
+use Rattle.cx_hart.specs.declared.answer.Went.TheVariants as went
+use Rattle.cx_hart.specs.declared.findings.Retired.{Retired}
+use Rattle.cx_hart.specs.declared.findings.Stop.TheVariants.{Asks, Interrupt, Trap}
 use Rattle.cx_hart.specs.declared.record.Ended.TheVariants as ended
 use Rattle.cx_hart.specs.declared.record.StepRec.{StepRec}
-use Rattle.cx_hart.specs.declared.turn.Retired.{Retired}
-use Rattle.cx_hart.specs.declared.turn.Stop.TheVariants.{Asks, Interrupt, Trap}
 
--- What a step comes to: it asks for a value that isn't due, it leaves a value that is due, or it is carried out, with the
--- machine behind it and its record.
+-- What a step comes to: it asks for a value that isn't due, it leaves a value that is due, or it is carried out, with
+-- the machine behind it and its record.
 pub data Outcome : Type 0 where
   NeedsValue : Asked → Outcome
   ValueLeft : Outcome
   Stepped : MachineState → StepRec → Outcome
 
+-- ---- the record
+
+-- the record of a step that has begun in this state and seen nothing yet
+abbrev pub blank : State → StepRec
+blank s = record {
+  before = s;
+  ended = ended.Retired;
+  fetch = None;
+  read = None;
+  read_more = None;
+  write = None;
+  write_more = None;
+  value = None;
+  result = None;
+  walked = 0;
+  places = replicate 6 0;
+  entries = replicate 6 0;
+}
+
+-- with what an instruction wrote, took and gave
+abbrev pub with_done : Retired → StepRec → StepRec
+with_done r rec = record rec { write = r.write; write_more = r.write_more; value = r.value; result = r.result }
+
 -- ---- how a turn ends
 
-abbrev pub trapped : Bool → List ℕ → State → ℕ → ℕ → Outcome
-trapped split memory s cause tval =
+-- the outcome of a turn of this machine that ended so, by the record of what it saw
+abbrev pub ended_in : MachineState → StepRec → End Retired → Outcome
+ended_in m rec (Ok r) =
+    Stepped (record { state = after_retired r m.state; memory = memory_after r m.memory }) (with_done r rec)
+ended_in m rec (Err (Asks what)) = NeedsValue what
+ended_in m rec (Err (Interrupt number)) =
     Stepped
-    (record { state = after_trap cause tval s; memory = memory })
-    (record_of s (ended.Trap cause) memory (fetch_of_step memory s) (places_of_step split memory s))
-
-abbrev pub interrupted : Bool → List ℕ → State → ℕ → Outcome
-interrupted split memory s number =
+    (record { state = after_trap (interrupt_cause number) 0 m.state; memory = m.memory })
+    (record rec { ended = ended.Interrupt number })
+ended_in m rec (Err (Trap cause tval)) =
     Stepped
-    (record { state = after_trap (interrupt_cause number) 0 s; memory = memory })
-    (record_of s (ended.Interrupt number) memory (fetch_of_step memory s) (places_of_step split memory s))
+    (record { state = after_trap cause tval m.state; memory = m.memory })
+    (record rec { ended = ended.Trap cause })
 
-abbrev pub retired : Bool → List ℕ → State → Retired → Outcome
-retired split memory s r =
-    Stepped
-    (record { state = after_retired r s; memory = memory_after r memory })
-    (record_of_retired s r memory (fetch_of_step memory s) (places_of_step split memory s))
-
-abbrev pub outcome_of : Bool → List ℕ → State → Phase Retired → Outcome
-outcome_of split memory s (Ok r) = retired split memory s r
-outcome_of split memory s (Err (Asks what)) = NeedsValue what
-outcome_of split memory s (Err (Interrupt number)) = interrupted split memory s number
-outcome_of split memory s (Err (Trap cause tval)) = trapped split memory s cause tval
+abbrev pub outcome_of : MachineState → Phase Retired → Outcome
+outcome_of m p = ended_in m (told p.looks (blank m.state)) p.end
 
 -- ---- a value that is due has to be taken
 
@@ -65,24 +84,42 @@ unless_left given (Stepped after rec) = taken_or_left given rec.value (Stepped a
 
 -- ---- the step
 
--- the turn of a hart in this state, with these bytes in RAM and this value due
-unfoldable pub turn_outcome : Bool → Option ℕ → List ℕ → State → Outcome
-turn_outcome split given memory s = unless_left given (outcome_of split memory s (turn split given memory s))
+abbrev pub machine_in : Surroundings → MachineState
+machine_in here = record { state = here.state; memory = here.memory }
 
-abbrev pub step_in : Bool → Due → MachineState → Outcome
-step_in split due m = turn_outcome split due.value m.memory (with_lines due.lines m.state)
+-- what the turn of a hart comes to
+unfoldable pub turn_outcome : Surroundings → Outcome
+turn_outcome here = unless_left here.given (outcome_of (machine_in here) (turn here))
 
--- The step of a machine to which these transfers, lines and value are due. Split says whether the hart carries out
--- misaligned loads and stores.
-abbrev pub step : Bool → List Transfer → Due → MachineState → Outcome
-step split transfers due m = step_in split due (after_transfers transfers m)
+-- the turn of a machine, once the transfers have come
+abbrev pub surroundings : Bool → Due → MachineState → Surroundings
+surroundings split due m = record {
+  split = split;
+  given = due.value;
+  memory = m.memory;
+  state = with_lines due.lines m.state;
+}
 
--- ---- what the code answers, and the machine that it leaves
+-- The step of a machine to which this is due. Split says whether the hart carries out misaligned loads and stores.
+abbrev pub step : Bool → Due → MachineState → Outcome
+step split due m = turn_outcome (surroundings split due (after_transfers due.transfers m))
 
-abbrev pub answer_of : Outcome → StepAnswer
-answer_of (NeedsValue what) = answer.NeedsValue what
-answer_of ValueLeft = answer.ValueLeft
-answer_of (Stepped after rec) = answer.Stepped rec
+-- ---- what the code takes and answers, and the machine that it leaves
+
+-- The code takes transfers apart, before the step.
+abbrev pub without_transfers : DueToHart → Due
+without_transfers due = record { transfers = []; lines = due.lines; value = due.value }
+
+abbrev pub step_answer : Outcome → StepAnswer
+step_answer (NeedsValue what) = answer.NeedsValue what
+step_answer ValueLeft = answer.ValueLeft
+step_answer (Stepped after rec) = answer.Stepped rec
+
+-- the answer of a step that is told in a record of the caller's
+abbrev pub answer_with : Went → StepRec → StepAnswer
+answer_with went.Stepped rec = answer.Stepped rec
+answer_with (went.NeedsValue what) rec = answer.NeedsValue what
+answer_with went.ValueLeft rec = answer.ValueLeft
 
 -- Where the step isn't carried out, nothing changes.
 abbrev pub machine_after : MachineState → Outcome → MachineState

@@ -1,29 +1,30 @@
 -- What holds of the bytes of an access once they are found, so that they can be read and written.
-use Rattle.std.specs.Prelude.{◌≡◌, ℕ, ◌+◌, ◌%◌, ◌^◌, ◌<◌, ◌≤◌, true, false, [], ◌∷◌, IfSome, Some, Ok}
+use Rattle.std.specs.Prelude.{◌≡◌, ℕ, ◌+◌, ◌<◌, ◌≤◌, true, false, [], ◌∷◌, IfSome, Some, Ok}
 use Rattle.cx_csr.specs.declared.state.State.{State}
 use Rattle.cx_csr.specs.Access.{is_illegal}
+use Rattle.cx_map.specs.Map.{IsInRam}
+use Rattle.cx_map.specs.declared.TheConstants.{RAM_START}
+use Rattle.cx_ram.specs.PhysicalMemory.{IsAccessLength, IsInOnePage}
 use Rattle.cx_trap.specs.Return.{can_mret, can_sret}
 use Rattle.cx_walk.specs.declared.walk.Place.TheVariants.{Ram}
 use Rattle.cx_walk.specs.declared.walk.Walk.{Walk}
 use Rattle.cx_hart.specs.declared.record.Touch.{Touch}
-use Rattle.cx_hart.specs.declared.turn.Control.{Control}
-use Rattle.cx_hart.specs.declared.turn.Control.TheVariants.{Untouched, Write, Mret, Sret}
-use Rattle.cx_hart.specs.declared.turn.Part.{Part}
-use Rattle.cx_hart.specs.declared.turn.Retired.{Retired}
-use Rattle.cx_hart.specs.declared.turn.Target.{Target}
-use Rattle.cx_hart.specs.declared.turn.Target.TheVariants.{Memory, Device}
+use Rattle.cx_hart.specs.declared.findings.Control.{Control}
+use Rattle.cx_hart.specs.declared.findings.Control.TheVariants.{Untouched, Write, Mret, Sret}
+use Rattle.cx_hart.specs.declared.findings.Part.{Part}
+use Rattle.cx_hart.specs.declared.findings.Retired.{Retired}
+use Rattle.cx_hart.specs.declared.findings.Target.{Target}
+use Rattle.cx_hart.specs.declared.findings.Target.TheVariants.{Memory, Device}
 
 -- 1 to 4 bytes in one page of RAM of so many bytes
 pub record IsStretch (size place len : ℕ) : Type 0 where
-  pub low : 2 ^ 31 ≤ place
-  pub high : place + len ≤ 2 ^ 31 + size
-  pub page : place % 4096 + len ≤ 4096
-  pub some : 1 ≤ len
-  pub most : len ≤ 4
+  pub inside : IsInRam size place len
+  pub page : IsInOnePage place len
+  pub length : IsAccessLength len
 
 -- a word below RAM
 pub record IsOutside (place len : ℕ) : Type 0 where
-  pub below : place < 2 ^ 31
+  pub below : place < RAM_START
   pub whole : len ≡ 4
 
 abbrev pub IsPart : ℕ → Part → Type 0
@@ -44,12 +45,12 @@ pub record IsSizedRest (first more : Part) : Type 0 where
   pub whole : first.len + more.len ≤ 4
 
 abbrev pub IsSized : Target → Type 0
-IsSized (Memory first more) = (1 ≤ first.len) × ((first.len ≤ 4) × IfSome more (IsSizedRest first))
+IsSized (Memory first more) = IsAccessLength first.len × IfSome more (IsSizedRest first)
 IsSized (Device part) = part.len ≡ 4
 
 -- Bytes that can be written: in RAM a stretch.
 pub record IsWritable (size : ℕ) (t : Touch) : Type 0 where
-  pub ram : 2 ^ 31 ≤ t.pa → IsStretch size t.pa t.len
+  pub ram : RAM_START ≤ t.pa → IsStretch size t.pa t.len
 
 abbrev pub IsLegal : State → Control → Type 0
 IsLegal s Untouched = Unit {0}

@@ -1,7 +1,7 @@
 -- What contracts see of a machine.
 use Rattle.std.specs.Prelude.{ℕ, Bool, List}
 use Rattle.cx_csr.specs.declared.state.State.{State}
-use Rattle.cx_hart.specs.Machine.{MachineState}
+use Rattle.cx_machine.specs.Machine.{MachineState}
 
 -- its state and memory, whether it carries out misaligned loads and stores, and how many pages can still get a frame of
 -- their own without taking memory

@@ -1,88 +1,39 @@
 //! Instructions that access memory.
 
-ghost use Rattle.std.specs.Prelude.{◌≡◌, ◌+◌, ◌*◌, ◌^◌, ◌<◌, ◌≤◌, ◌⊎◌, length, Some};
-ghost use Rattle.cx_ram.specs.LittleEndian.{low_bytes};
+ghost use Rattle.std.specs.Prelude.{◌≡◌, ◌+◌, ◌*◌, ◌^◌, ◌<◌, ◌≤◌, ◌⊎◌, length};
 ghost use Rattle.cx_decode.specs.WellFormed.{WellFormed};
-ghost use Rattle.cx_hart.specs.Accesses.{access_done, accessed, bytes_of, carried_out, first_write, outcome_at, place_of, reading_of, reads_nothing, reservation_after, second_write, seen, whole_value};
-ghost use Rattle.cx_hart.specs.Phases.{answered};
-ghost use Rattle.cx_hart.specs.Sights.{Noted};
-ghost use Rattle.cx_hart.specs.Stretches.{IsPart, IsRest, IsSized, IsTarget};
-ghost use Rattle.cx_hart.specs.Touches.{padded, touch, value_at};
-ghost use Rattle.cx_hart.specs.Walked.{places_of_access};
+ghost use Rattle.cx_hart.specs.Accesses.{access_done, accessed, bytes_of, first_place, first_write, inner_reading, joined, outcome_at, outer_reading, reading_of, reservation_after, second_write};
+ghost use Rattle.cx_hart.specs.Ends.{answered};
+ghost use Rattle.cx_hart.specs.Looks.{told};
+ghost use Rattle.cx_hart.specs.Stretches.{IsSized, IsSizedRest, IsTarget};
 
 use crate::answer::Asked;
+use crate::effect::{instruction_effect, retired_with};
+use crate::findings::{Part, Reading, Retired, Stop, Target};
+use crate::here::Here;
 use crate::reach::reached;
-use crate::record::Touch;
-use crate::sights::Sights;
-use crate::turn::{Control, Part, Reading, Retired, Stop, Target};
+use crate::record::{StepRec, Touch};
+use crate::touch::{part_value, touch};
 use cx_csr::State;
 use cx_decode::Ins;
-use cx_exec::{Access, Effect, Got, Need, carry_out};
-use cx_ram::Ram;
+use cx_exec::{Access, Effect, Got, Need};
 
-/// The low bytes of a value, and 0 behind them.
+/// An answer with no value of the outside in it.
 #[inline]
-#[tactic(auto, using(crate::proofs::TouchBytes::one_byte, crate::proofs::TouchBytes::two_bytes, crate::proofs::TouchBytes::three_bytes, crate::proofs::TouchBytes::four_bytes))]
-fn low_bytes(len: u8, value: u32) -> [u8; 4]
-    requires some { 1 ≤ len }
-    requires most { len ≤ 4 }
-    ensures { result ≡ padded 4 (low_bytes len value) }
+pub(crate) fn inner_reading(got: Got) -> Reading
+    ensures { result ≡ inner_reading got }
 {
-    let bytes = value.to_le_bytes();
-    match len {
-        1 => [bytes[0], 0, 0, 0],
-        2 => [bytes[0], bytes[1], 0, 0],
-        3 => [bytes[0], bytes[1], bytes[2], 0],
-        _ => bytes,
-    }
+    Reading { got, value: None }
 }
 
-/// The low bytes of a value at the bytes of a part.
+/// An answer that is a value of the outside.
 #[inline]
-#[tactic(auto, unfolding(crate::specs::Touches::touch))]
-pub(crate) fn touch(part: Part, value: u32) -> Touch
-    requires some { 1 ≤ part.len }
-    requires most { part.len ≤ 4 }
-    ensures { result ≡ touch part value }
-{
-    let Part { va, pa, len } = part;
-    Touch {
-        va,
-        pa,
-        len,
-        bytes: low_bytes(len, value),
-    }
-}
-
-/// What stands in RAM at a part.
-#[inline]
-pub(crate) fn value_at(ram: &Ram, part: Part) -> u32
-    requires { IsPart (length ram.now.memory) part }
-    ensures value { result ≡ value_at ram.now.memory part }
-    ensures fits { result < 2 ^ (8 * part.len) }
-{
-    ram.load(part.pa, part.len)
-}
-
-/// What is read at a part of RAM.
-#[inline]
-pub(crate) fn seen(ram: &Ram, part: Part) -> Touch
-    requires { IsPart (length ram.now.memory) part }
-    ensures { result ≡ seen ram.now.memory part }
-{
-    touch(part, value_at(ram, part))
-}
-
-/// The answer of an access that reads nothing.
-#[inline]
-pub(crate) fn reads_nothing(got: Got) -> Reading
-    ensures { result ≡ reads_nothing got }
+pub(crate) fn outer_reading(got: Got, value: u32) -> Reading
+    ensures { result ≡ outer_reading got value }
 {
     Reading {
         got,
-        read: None,
-        read_more: None,
-        value: None,
+        value: Some(value),
     }
 }
 
@@ -99,13 +50,13 @@ pub(crate) fn answered(given: Option<u32>, what: Asked) -> Result<u32, Stop>
 
 /// The bytes of a split access, those of the second part above those of the first.
 #[tactic(auto, using(crate::proofs::SplitValues::small_value))]
-fn split_value(ram: &Ram, first: Part, more: Part) -> u32
-    requires first { IsPart (length ram.now.memory) first }
-    requires more { IsRest (length ram.now.memory) first more }
-    ensures { result ≡ whole_value ram.now.memory first (Some more) }
+fn joined(first: Part, more: Part, low: u32, high: u32) -> u32
+    requires some { 1 ≤ first.len }
+    requires rest { IsSizedRest first more }
+    requires low { low < 2 ^ (8 * first.len) }
+    requires high { high < 2 ^ (8 * more.len) }
+    ensures { result ≡ joined first low high }
 {
-    let low = value_at(ram, first);
-    let high = value_at(ram, more);
     match first.len {
         1 => low + high * 0x100,
         2 => low + high * 0x1_0000,
@@ -116,42 +67,39 @@ fn split_value(ram: &Ram, first: Part, more: Part) -> u32
 /// What a load, an LR or an AMO reads.
 #[inline(never)]
 #[tactic(auto, unfolding(crate::specs::Accesses::bytes_of))]
-fn bytes_of(given: Option<u32>, ram: &Ram, target: Target) -> Result<Reading, Stop>
-    requires { IsTarget (length ram.now.memory) target }
-    ensures { result ≡ bytes_of given ram.now.memory target }
+fn bytes_of(here: &Here, target: Target, rec: &mut StepRec) -> Result<Reading, Stop>
+    requires { IsTarget (length here.now.memory) target }
+    ensures reading { result ≡ (bytes_of here.now target).end }
+    ensures told { rec.new ≡ told (bytes_of here.now target).looks rec.old }
 {
     match target {
-        Target::Memory { first, more: None } => Ok(Reading {
-            got: Got::Bytes(value_at(ram, first)),
-            read: Some(seen(ram, first)),
-            read_more: None,
-            value: None,
-        }),
+        Target::Memory { first, more: None } => {
+            let low = part_value(here.ram, first);
+            rec.read = Some(touch(first, low));
+            Ok(inner_reading(Got::Bytes(low)))
+        }
         Target::Memory {
             first,
             more: Some(more),
-        } => Ok(Reading {
-            got: Got::Bytes(split_value(ram, first, more)),
-            read: Some(seen(ram, first)),
-            read_more: Some(seen(ram, more)),
-            value: None,
-        }),
+        } => {
+            let low = part_value(here.ram, first);
+            rec.read = Some(touch(first, low));
+            let high = part_value(here.ram, more);
+            rec.read_more = Some(touch(more, high));
+            Ok(inner_reading(Got::Bytes(joined(first, more, low, high))))
+        }
         Target::Device(part) => {
-            let value = answered(given, Asked::Device(part.pa))?;
-            Ok(Reading {
-                got: Got::Bytes(value),
-                read: Some(touch(part, value)),
-                read_more: None,
-                value: Some(value),
-            })
+            let value = answered(here.given, Asked::Device(part.pa))?;
+            rec.read = Some(touch(part, value));
+            Ok(outer_reading(Got::Bytes(value), value))
         }
     }
 }
 
 /// The place of the first byte.
 #[inline]
-fn place_of(target: Target) -> u32
-    ensures { result ≡ place_of target }
+fn first_place(target: Target) -> u32
+    ensures { result ≡ first_place target }
 {
     match target {
         Target::Memory { first, .. } => first.pa,
@@ -163,21 +111,21 @@ fn place_of(target: Target) -> u32
 #[inline]
 #[tactic(auto, unfolding(crate::specs::Accesses::reading_of))]
 fn reading_of(
-    given: Option<u32>,
-    ram: &Ram,
-    state: &State,
+    here: &Here,
     access: Access,
     target: Target,
+    rec: &mut StepRec,
 ) -> Result<Reading, Stop>
-    requires { IsTarget (length ram.now.memory) target }
-    ensures { result ≡ reading_of given ram.now.memory state.now access target }
+    requires { IsTarget (length here.now.memory) target }
+    ensures reading { result ≡ (reading_of here.now access target).end }
+    ensures told { rec.new ≡ told (reading_of here.now access target).looks rec.old }
 {
     match access {
-        Access::Load | Access::Reserve | Access::Amo => bytes_of(given, ram, target),
-        Access::Store => Ok(reads_nothing(Got::Nothing)),
+        Access::Load | Access::Reserve | Access::Amo => bytes_of(here, target, rec),
+        Access::Store => Ok(inner_reading(Got::Nothing)),
         Access::Conditional => {
-            let outcome = outcome_at(state.reservation, place_of(target));
-            Ok(reads_nothing(Got::Outcome(outcome)))
+            let outcome = outcome_at(here.state.reservation, first_place(target));
+            Ok(inner_reading(Got::Outcome(outcome)))
         }
     }
 }
@@ -198,7 +146,7 @@ fn reservation_after(access: Access, target: Target, old: Option<u32>) -> Option
     ensures { result ≡ reservation_after access target old }
 {
     match access {
-        Access::Reserve => Some(place_of(target)),
+        Access::Reserve => Some(first_place(target)),
         Access::Conditional => None,
         _ => old,
     }
@@ -251,11 +199,7 @@ fn access_done(
         None => (None, None),
     };
     Retired {
-        effect,
-        control: Control::Untouched,
         reservation: reservation_after(access, target, state.reservation),
-        read: reading.read,
-        read_more: reading.read_more,
         write,
         write_more,
         value: reading.value,
@@ -263,44 +207,27 @@ fn access_done(
             Got::Outcome(outcome) => Some(outcome),
             _ => None,
         },
-    }
-}
-
-/// The effect of an instruction, or the trap that a misaligned target ends in.
-#[inline]
-pub(crate) fn carried_out(state: &State, ins: &Ins, got: Got) -> Result<Effect, Stop>
-    requires { WellFormed ins.now }
-    ensures effect { result ≡ carried_out state.now ins.now got }
-{
-    match carry_out(ins, state.pc, &state.x, got) {
-        Ok(effect) => Ok(effect),
-        Err(misaligned) => Err(Stop::Trap {
-            cause: 0,
-            tval: misaligned.target,
-        }),
+        ..retired_with(state, effect)
     }
 }
 
 /// An instruction that accesses memory.
 #[inline]
-#[tactic(auto, unfolding(crate::specs::Accesses::accessed), using(crate::proofs::Found::reached_target, crate::proofs::Found::reached_sized))]
+#[tactic(auto, unfolding(crate::specs::Accesses::accessed), using(crate::proofs::Found::reached_target, crate::proofs::Found::reached_sized, crate::proofs::Telling::told_append))]
 pub(crate) fn accessed(
-    split: bool,
-    given: Option<u32>,
-    ram: &Ram,
-    state: &State,
+    here: &Here,
     ins: &Ins,
     need: Need,
-    sights: &mut Sights,
+    rec: &mut StepRec,
 ) -> Result<Retired, Stop>
     requires formed { WellFormed ins.now }
     requires length { (need.len ≡ 1) ⊎ (need.len ≡ 2) ⊎ (need.len ≡ 4) }
-    requires room { length sights.old.places + 4 ≤ 6 }
-    ensures retired { result ≡ accessed split given ram.now.memory state.now ins.now need }
-    ensures sights { Noted ram.now.memory sights.old sights.new (places_of_access split ram.now.memory state.now need) }
+    requires room { rec.old.walked + 4 ≤ 6 }
+    ensures retired { result ≡ (accessed here.now ins.now need).end }
+    ensures told { rec.new ≡ told (accessed here.now ins.now need).looks rec.old }
 {
-    let target = reached(split, ram, state, need, sights)?;
-    let reading = reading_of(given, ram, state, need.access, target)?;
-    let effect = carried_out(state, ins, reading.got)?;
-    Ok(access_done(state, need.access, target, reading, effect))
+    let target = reached(here, need, rec)?;
+    let reading = reading_of(here, need.access, target, rec)?;
+    let effect = instruction_effect(here.state, ins, reading.got)?;
+    Ok(access_done(here.state, need.access, target, reading, effect))
 }

@@ -1,18 +1,20 @@
 //! What a turn changes, once it is sure that the step is carried out.
 
 ghost use Rattle.std.specs.Prelude.{◌≡◌, ◌+◌, ◌<◌, ◌≤◌, IfSome, IsTrue, length, take};
+ghost use Rattle.cx_map.specs.Map.{ram_index};
 ghost use Rattle.cx_ram.specs.LittleEndian.{written};
-ghost use Rattle.cx_ram.specs.PhysicalMemory.{ram_index};
 ghost use Rattle.cx_trap.specs.Causes.{is_cause};
 ghost use Rattle.cx_hart.specs.After.{after_control, after_retired, after_trap, memory_after, memory_after_touch};
 ghost use Rattle.cx_hart.specs.Counters.{with_cycle, with_retired, writes_one_of};
 ghost use Rattle.cx_hart.specs.Stretches.{IsLegal, IsStretch, IsWritable};
 
+use crate::findings::{Control, Retired};
 use crate::record::Touch;
-use crate::turn::{Control, Retired};
+use cx_csr::numbers::{CSR_MCYCLE, CSR_MCYCLEH, CSR_MINSTRET, CSR_MINSTRETH};
 use cx_csr::{State, write};
 use cx_exec::put;
-use cx_ram::{RAM_START, Ram};
+use cx_map::RAM_START;
+use cx_ram::Ram;
 use cx_trap::{enter, mret, sret};
 
 /// Takes a trap of this cause.
@@ -74,10 +76,10 @@ fn writes_one_of(low: u16, high: u16, control: Control) -> bool
 fn count(state: &mut State, control: Control)
     ensures { state.new ≡ with_retired control (with_cycle control state.old) }
 {
-    if !writes_one_of(0xb00, 0xb80, control) {
+    if !writes_one_of(CSR_MCYCLE, CSR_MCYCLEH, control) {
         state.csr.mcycle = state.csr.mcycle.wrapping_add(1);
     }
-    if !writes_one_of(0xb02, 0xb82, control) {
+    if !writes_one_of(CSR_MINSTRET, CSR_MINSTRETH, control) {
         state.csr.minstret = state.csr.minstret.wrapping_add(1);
     }
 }

@@ -33,3 +33,14 @@ pub enum StepAnswer {
     /// A value is due and it asks for none; nothing changed.
     ValueLeft,
 }
+
+/// How a step went that is told in a record of the caller's.
+#[derive(Clone, Copy, Debug, PartialEq, Eq)]
+pub enum Went {
+    /// The step was carried out, and the record tells it.
+    Stepped,
+    /// It asks for this value and none is due; nothing changed but the record, which tells nothing then.
+    NeedsValue(Asked),
+    /// A value is due and it asks for none; nothing changed but the record, which tells nothing then.
+    ValueLeft,
+}

@@ -4,17 +4,20 @@ ghost use Rattle.std.specs.Prelude.{◌≡◌, IfOk};
 ghost use Rattle.cx_decode.specs.WellFormed.{WellFormed};
 ghost use Rattle.cx_hart.specs.Legal.{illegal, instruction, is_barred};
 
-use crate::turn::Stop;
+use crate::findings::Stop;
+use cx_csr::causes::ILLEGAL_INSTRUCTION;
+use cx_csr::modes::{MACHINE, SUPERVISOR, USER};
+use cx_csr::status::{TVM, TW};
 use cx_csr::{State, is_bit_set};
 use cx_decode::{Ins, Op, decode};
 
 /// The stop of an illegal instruction.
 #[inline]
 pub(crate) fn illegal(word: u32) -> Stop
-    ensures { result ≡ Stop.Trap 2 word }
+    ensures { result ≡ Stop.Trap ILLEGAL_INSTRUCTION word }
 {
     Stop::Trap {
-        cause: 2,
+        cause: ILLEGAL_INSTRUCTION,
         tval: word,
     }
 }
@@ -37,8 +40,10 @@ pub(crate) fn is_barred(state: &State, op: Op) -> bool
     ensures { result ≡ is_barred state.now op }
 {
     match op {
-        Op::Wfi => state.mode < 3 && is_bit_set(state.csr.mstatus, 21),
-        Op::SfenceVma => state.mode == 0 || state.mode == 1 && is_bit_set(state.csr.mstatus, 20),
+        Op::Wfi => state.mode < MACHINE && is_bit_set(state.csr.mstatus, TW),
+        Op::SfenceVma => {
+            state.mode == USER || state.mode == SUPERVISOR && is_bit_set(state.csr.mstatus, TVM)
+        }
         _ => false,
     }
 }

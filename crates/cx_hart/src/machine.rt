@@ -2,21 +2,23 @@
 
 ghost use Rattle.std.specs.Prelude.{◌≡◌, ℕ, ◌+◌, ◌*◌, ◌/◌, ◌^◌, ◌<◌, ◌≤◌, [], ◌∷◌, replicate, length, IfErr, IfOk, IfSome, false, refl};
 ghost use Rattle.cx_csr.specs.Keeps.{Keeps};
-ghost use Rattle.cx_csr.specs.Rules.{IsWithin};
+ghost use Rattle.cx_machine.specs.Due.{AreLines, with_lines};
+ghost use Rattle.cx_machine.specs.Machine.{pages_of};
+ghost use Rattle.cx_machine.specs.Transfers.{after_transfers, overlaps, reservation_left};
+ghost use Rattle.cx_map.specs.Map.{IsInRam, IsPageCount, size_of_pages};
 ghost use Rattle.cx_ram.specs.LittleEndian.{written};
-ghost use Rattle.cx_ram.specs.PhysicalMemory.{IsInRam, IsPage};
-ghost use Rattle.cx_hart.specs.Machine.{pages_of};
-ghost use Rattle.cx_hart.specs.Step.{answer_of, machine_after, step_in, ticks_of};
-ghost use Rattle.cx_hart.specs.Transfers.{after_transfers, overlaps, reservation_left, with_lines};
+ghost use Rattle.cx_ram.specs.PhysicalMemory.{IsPage};
+ghost use Rattle.cx_hart.specs.Step.{answer_with, machine_after, step, step_answer, ticks_of, without_transfers};
 ghost use Rattle.cx_hart.specs.Whole.{machine_of};
 
-use crate::answer::{Due, StepAnswer};
-use crate::conclude::{asked_of, conclude, end_of, is_left};
-use crate::execute::turn;
+use crate::answer::{Due, StepAnswer, Went};
+use crate::conclude::{asked_of, conclude, is_left};
+use crate::here::Here;
 use crate::record::StepRec;
-use crate::sights::Sights;
 use crate::steps::Steps;
+use crate::turn::turn;
 use cx_csr::{Lines, State};
+use cx_map::PAGE_SIZE;
 use cx_ram::{NoMemory, Ram};
 use std::alloc::Global;
 use std::marker::Model;
@@ -32,7 +34,7 @@ pub struct Machine {
 
 impl Model for Machine {
     ghost use Rattle.cx_csr.specs.Keeps.{Keeps};
-    ghost use Rattle.cx_hart.specs.Machine.{pages_of};
+    ghost use Rattle.cx_machine.specs.Machine.{pages_of};
     ghost use Rattle.cx_hart.specs.Whole.{Whole};
 
     ghost Value = { Whole };
@@ -55,28 +57,27 @@ fn set_lines(state: &mut State, lines: Option<Lines>)
 impl Machine {
     /// A machine with `pages` pages of RAM, all zero, and a hart in this state, which traps at misaligned accesses.
     pub fn new(alloc: Global, pages: u32, state: State) -> Result<Machine, NoMemory>
-        requires some { 1 ≤ pages }
-        requires most { pages ≤ 262144 }
+        requires pages { IsPageCount pages }
         requires keeps { Keeps pages state }
         ensures state { IfOk result (λ m. m.state ≡ state) }
-        ensures memory { IfOk result (λ m. m.memory ≡ replicate (4096 * pages) 0) }
+        ensures memory { IfOk result (λ m. m.memory ≡ replicate (size_of_pages pages) 0) }
         ensures whole { IfOk result (λ m. m.split ≡ false) }
     {
         Machine::with_split(alloc, pages, state, false)
     }
 
-    /// The same of a hart that carries out misaligned loads and stores where `split` is set, by parts that end with the page.
+    /// The same of a hart that carries out misaligned loads and stores where `split` is set, by parts that end with
+    /// the page.
     pub fn with_split(
         alloc: Global,
         pages: u32,
         state: State,
         split: bool,
     ) -> Result<Machine, NoMemory>
-        requires some { 1 ≤ pages }
-        requires most { pages ≤ 262144 }
+        requires pages { IsPageCount pages }
         requires keeps { Keeps pages state }
         ensures state { IfOk result (λ m. m.state ≡ state) }
-        ensures memory { IfOk result (λ m. m.memory ≡ replicate (4096 * pages) 0) }
+        ensures memory { IfOk result (λ m. m.memory ≡ replicate (size_of_pages pages) 0) }
         ensures split { IfOk result (λ m. m.split ≡ split) }
     {
         match Ram::new(alloc, pages) {
@@ -113,11 +114,12 @@ impl Machine {
     /// Writes the bytes of a device to RAM from a place on, and drops a reservation that they overlap.
     #[tactic(auto, using(crate::proofs::Transfers::transfer_keeps))]
     pub fn dma(&mut self, pa: u32, bytes: &[u8])
-        requires ram { IsInRam self.old.memory pa (length bytes.now) }
+        requires ram { IsInRam (length self.old.memory) pa (length bytes.now) }
         requires some { 1 ≤ length bytes.now }
-        requires most { length bytes.now ≤ 4096 }
+        requires most { length bytes.now ≤ PAGE_SIZE }
         requires room { 2 ≤ self.old.spare }
-        ensures machine { machine_of self.new ≡ after_transfers (record { place = pa; bytes = bytes.now } ∷ []) (machine_of self.old) }
+        ensures machine { machine_of self.new
+            ≡ after_transfers (record { place = pa; bytes = bytes.now } ∷ []) (machine_of self.old) }
         ensures size { length self.new.memory ≡ length self.old.memory }
         ensures split { self.new.split ≡ self.old.split }
         ensures spare { self.old.spare ≤ self.new.spare + 2 }
@@ -127,10 +129,10 @@ impl Machine {
     }
 
     /// Writes a whole page.
-    pub fn fill(&mut self, page: u32, bytes: &[u8; 4096])
+    pub fn fill(&mut self, page: u32, bytes: &[u8; PAGE_SIZE])
         requires page { IsPage self.old.memory page }
         requires room { 2 ≤ self.old.spare }
-        ensures memory { self.new.memory ≡ written self.old.memory (4096 * page) bytes.now }
+        ensures memory { self.new.memory ≡ written self.old.memory (page * PAGE_SIZE) bytes.now }
         ensures size { length self.new.memory ≡ length self.old.memory }
         ensures state { self.new.state ≡ self.old.state }
         ensures split { self.new.split ≡ self.old.split }
@@ -139,42 +141,76 @@ impl Machine {
         self.ram.set_page(page, bytes);
     }
 
-    /// Takes a step, to which these lines and this value are due; the bytes of devices come before it, by `dma`. Where the
-    /// step asks for a value and none is due, or leaves one that is, it isn't carried out and nothing changes. It takes no
-    /// memory, and counts where it is carried out.
-    #[tactic(auto, unfolding(crate::specs::Step::turn_outcome), using(crate::proofs::Ends::asked_outcome, crate::proofs::Ends::left_outcome, crate::proofs::Ends::carried_outcome))]
+    /// Takes a step, to which these lines and this value are due; the bytes of devices come before it, by `dma`. Where
+    /// the step asks for a value and none is due, or leaves one that is, it isn't carried out and nothing changes. It
+    /// takes no memory, and counts where it is carried out.
     pub fn step<L: Ledger>(&mut self, due: Due, steps: &mut Steps<L>) -> StepAnswer
-        requires lines { IfSome due.lines (λ lines. IsWithin 0xa88 lines.0) }
+        requires lines { IfSome due.lines AreLines }
         requires room { 2 ≤ self.old.spare }
-        ensures answer { result ≡ answer_of (step_in self.old.split due (machine_of self.old)) }
-        ensures machine { machine_of self.new ≡ machine_after (machine_of self.old) (step_in self.old.split due (machine_of self.old)) }
+        ensures answer { result ≡ step_answer (step self.old.split (without_transfers due) (machine_of self.old)) }
+        ensures machine { machine_of self.new
+            ≡ machine_after (machine_of self.old) (step self.old.split (without_transfers due) (machine_of self.old)) }
         ensures size { length self.new.memory ≡ length self.old.memory }
         ensures split { self.new.split ≡ self.old.split }
         ensures spare { self.old.spare ≤ self.new.spare + 2 }
         ensures unchanged { steps.new ≡ steps.old → self.new ≡ self.old }
-        ensures ticks { steps.new ≡ steps.old + ticks_of (step_in self.old.split due (machine_of self.old)) }
+        ensures ticks { steps.new
+            ≡ steps.old + ticks_of (step self.old.split (without_transfers due) (machine_of self.old)) }
+    {
+        let mut rec = StepRec::BLANK;
+        match self.step_into(due, steps, &mut rec) {
+            Went::Stepped => StepAnswer::Stepped(rec),
+            Went::NeedsValue(what) => StepAnswer::NeedsValue(what),
+            Went::ValueLeft => StepAnswer::ValueLeft,
+        }
+    }
+
+    /// The same step, told in the record of a caller that takes many. The record tells the step where it was carried
+    /// out, and nothing otherwise.
+    #[inline(never)]
+    #[tactic(auto, unfolding(crate::specs::Step::turn_outcome), using(crate::proofs::Ends::asked_outcome, crate::proofs::Ends::left_outcome, crate::proofs::Ends::carried_outcome))]
+    pub fn step_into<L: Ledger>(
+        &mut self,
+        due: Due,
+        steps: &mut Steps<L>,
+        rec: &mut StepRec,
+    ) -> Went
+        requires lines { IfSome due.lines AreLines }
+        requires room { 2 ≤ self.old.spare }
+        ensures answer { answer_with result rec.new
+            ≡ step_answer (step self.old.split (without_transfers due) (machine_of self.old)) }
+        ensures machine { machine_of self.new
+            ≡ machine_after (machine_of self.old) (step self.old.split (without_transfers due) (machine_of self.old)) }
+        ensures size { length self.new.memory ≡ length self.old.memory }
+        ensures split { self.new.split ≡ self.old.split }
+        ensures spare { self.old.spare ≤ self.new.spare + 2 }
+        ensures unchanged { steps.new ≡ steps.old → self.new ≡ self.old }
+        ensures ticks { steps.new
+            ≡ steps.old + ticks_of (step self.old.split (without_transfers due) (machine_of self.old)) }
     {
         is_word(due.value);
         let _ = self.ram.pages();
         let lines = self.state.lines;
         set_lines(&mut self.state, due.lines);
-        let mut sights = Sights::none();
-        let ended = turn(self.split, due.value, &self.ram, &self.state, &mut sights);
+        rec.clear(&self.state);
+        let here = Here {
+            split: self.split,
+            given: due.value,
+            ram: &self.ram,
+            state: &self.state,
+        };
+        let ended = turn(&here, rec);
         if let Some(what) = asked_of(&ended) {
             self.state.lines = lines;
-            return StepAnswer::NeedsValue(what);
+            return Went::NeedsValue(what);
         }
         if is_left(due.value, &ended) {
             self.state.lines = lines;
-            return StepAnswer::ValueLeft;
+            return Went::ValueLeft;
         }
-        let mut answer = StepAnswer::Stepped(StepRec::BLANK);
-        if let StepAnswer::Stepped(rec) = &mut answer {
-            sights.tell(&self.state, end_of(&ended), rec);
-            conclude(&ended, &mut self.state, &mut self.ram, rec);
-        }
+        conclude(&ended, &mut self.state, &mut self.ram, rec);
         steps.tick();
-        answer
+        Went::Stepped
     }
 }
 

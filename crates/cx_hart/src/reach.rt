@@ -1,18 +1,16 @@
 //! Where the bytes of an access stand.
 
-ghost use Rattle.std.specs.Prelude.{◌≡◌, ◌+◌, ◌-◌, ◌%◌, ◌<◌, ◌≤◌, ◌⊎◌, length};
-ghost use Rattle.cx_exec.specs.declared.asks.Access.{Access};
-ghost use Rattle.cx_hart.specs.Reaching.{first_length, is_aligned, is_plain, kind_of, misaligned_cause, reached, reached_part, reached_split, reached_whole};
-ghost use Rattle.cx_hart.specs.Fetch.{walk_in};
-ghost use Rattle.cx_hart.specs.Sights.{Noted};
-ghost use Rattle.cx_hart.specs.Walked.{part_walk, places_of, places_of_access, places_of_split};
+ghost use Rattle.std.specs.Prelude.{◌≡◌, ◌+◌, ◌-◌, ◌%◌, ◌<◌, ◌≤◌, ◌⊎◌};
+ghost use Rattle.cx_hart.specs.Looks.{told};
+ghost use Rattle.cx_hart.specs.Reaching.{first_length, is_plain, kind_of, misaligned_cause, reached, reached_part, reached_split, reached_whole};
 
 use crate::fetch::{address_of, translated};
-use crate::sights::Sights;
-use crate::turn::{Part, Stop, Target};
-use cx_csr::State;
+use crate::findings::{Part, Stop, Target};
+use crate::here::Here;
+use crate::record::StepRec;
+use cx_csr::causes::{LOAD_ADDRESS_MISALIGNED, STORE_ADDRESS_MISALIGNED};
 use cx_exec::{Access, Need};
-use cx_ram::Ram;
+use cx_map::PAGE_SIZE;
 use cx_walk::{Kind, Place};
 
 /// What is checked for an access.
@@ -33,8 +31,8 @@ fn misaligned_cause(access: Access) -> u32
     ensures { result ≡ misaligned_cause access }
 {
     match access {
-        Access::Load | Access::Reserve => 4,
-        Access::Store | Access::Conditional | Access::Amo => 6,
+        Access::Load | Access::Reserve => LOAD_ADDRESS_MISALIGNED,
+        Access::Store | Access::Conditional | Access::Amo => STORE_ADDRESS_MISALIGNED,
     }
 }
 
@@ -47,16 +45,16 @@ fn is_plain(access: Access) -> bool
 
 /// Where an aligned access stands.
 #[inline]
-#[tactic(auto, unfolding(crate::specs::Reaching::reached_whole))]
-fn reach_whole(ram: &Ram, state: &State, need: Need, sights: &mut Sights) -> Result<Target, Stop>
+#[tactic(auto, unfolding(crate::specs::Reaching::reached_whole), using(crate::proofs::Telling::told_append))]
+fn reach_whole(here: &Here, need: Need, rec: &mut StepRec) -> Result<Target, Stop>
     requires length { (need.len ≡ 1) ⊎ (need.len ≡ 2) ⊎ (need.len ≡ 4) }
     requires aligned { need.va % need.len ≡ 0 }
-    requires room { length sights.old.places + 2 ≤ 6 }
-    ensures target { result ≡ reached_whole ram.now.memory state.now need }
-    ensures sights { Noted ram.now.memory sights.old sights.new (places_of (walk_in ram.now.memory state.now (kind_of need.access) need.va need.len)) }
+    requires room { rec.old.walked + 2 ≤ 6 }
+    ensures target { result ≡ (reached_whole here.now need).end }
+    ensures told { rec.new ≡ told (reached_whole here.now need).looks rec.old }
 {
     let Need { access, va, len } = need;
-    let place = translated(ram, state, kind_of(access), va, len, sights)?;
+    let place = translated(here, kind_of(access), va, len, rec)?;
     Ok(match place {
         Place::Ram(pa) => Target::Memory {
             first: Part { va, pa, len },
@@ -67,20 +65,14 @@ fn reach_whole(ram: &Ram, state: &State, need: Need, sights: &mut Sights) -> Res
 }
 
 /// Where a part of an access that is split by pages stands.
-fn reach_part(
-    ram: &Ram,
-    state: &State,
-    need: Need,
-    va: u32,
-    len: u8,
-    sights: &mut Sights,
-) -> Result<Part, Stop>
-    requires room { length sights.old.places + 2 ≤ 6 }
-    ensures part { result ≡ reached_part ram.now.memory state.now need va len }
-    ensures sights { Noted ram.now.memory sights.old sights.new (places_of (part_walk ram.now.memory state.now need va)) }
-    ensures room { length sights.new.places ≤ length sights.old.places + 2 }
+#[tactic(auto, using(crate::proofs::Telling::told_append))]
+fn reach_part(here: &Here, need: Need, va: u32, len: u8, rec: &mut StepRec) -> Result<Part, Stop>
+    requires room { rec.old.walked + 2 ≤ 6 }
+    ensures part { result ≡ (reached_part here.now need va len).end }
+    ensures told { rec.new ≡ told (reached_part here.now need va len).looks rec.old }
+    ensures room { rec.new.walked ≤ rec.old.walked + 2 }
 {
-    let place = translated(ram, state, kind_of(need.access), va, 1, sights)?;
+    let place = translated(here, kind_of(need.access), va, 1, rec)?;
     Ok(Part {
         va,
         pa: address_of(place),
@@ -93,7 +85,7 @@ fn first_length(need: Need) -> u8
     requires { need.len ≤ 4 }
     ensures { result ≡ first_length need }
 {
-    let left = 4096 - need.va % 4096;
+    let left = PAGE_SIZE as u32 - need.va % PAGE_SIZE as u32;
     if left < need.len as u32 {
         left as u8
     } else {
@@ -103,20 +95,20 @@ fn first_length(need: Need) -> u8
 
 /// Where an access stands that is split by pages.
 #[cold]
-#[tactic(auto, unfolding(crate::specs::Reaching::reached_split), using(crate::proofs::Noted::noted_more, crate::proofs::Noted::noted_alone))]
-fn reach_split(ram: &Ram, state: &State, need: Need, sights: &mut Sights) -> Result<Target, Stop>
+#[tactic(auto, unfolding(crate::specs::Reaching::reached_split), using(crate::proofs::Telling::told_append))]
+fn reach_split(here: &Here, need: Need, rec: &mut StepRec) -> Result<Target, Stop>
     requires length { need.len ≤ 4 }
-    requires room { length sights.old.places + 4 ≤ 6 }
-    ensures target { result ≡ reached_split ram.now.memory state.now need }
-    ensures sights { Noted ram.now.memory sights.old sights.new (places_of_split ram.now.memory state.now need) }
+    requires room { rec.old.walked + 4 ≤ 6 }
+    ensures target { result ≡ (reached_split here.now need).end }
+    ensures told { rec.new ≡ told (reached_split here.now need).looks rec.old }
 {
     let length = first_length(need);
-    let first = reach_part(ram, state, need, need.va, length, sights)?;
+    let first = reach_part(here, need, need.va, length, rec)?;
     if length == need.len {
         return Ok(Target::Memory { first, more: None });
     }
     let next = need.va.wrapping_add(length as u32);
-    let more = reach_part(ram, state, need, next, need.len - length, sights)?;
+    let more = reach_part(here, need, next, need.len - length, rec)?;
     Ok(Target::Memory {
         first,
         more: Some(more),
@@ -125,24 +117,18 @@ fn reach_split(ram: &Ram, state: &State, need: Need, sights: &mut Sights) -> Res
 
 /// Where an access stands, or the trap that it ends in.
 #[inline]
-#[tactic(auto, unfolding(crate::specs::Reaching::reached, crate::specs::Walked::places_of_access), using(crate::proofs::Noted::noted_none))]
-pub(crate) fn reached(
-    split: bool,
-    ram: &Ram,
-    state: &State,
-    need: Need,
-    sights: &mut Sights,
-) -> Result<Target, Stop>
+#[tactic(auto, unfolding(crate::specs::Reaching::reached))]
+pub(crate) fn reached(here: &Here, need: Need, rec: &mut StepRec) -> Result<Target, Stop>
     requires length { (need.len ≡ 1) ⊎ (need.len ≡ 2) ⊎ (need.len ≡ 4) }
-    requires room { length sights.old.places + 4 ≤ 6 }
-    ensures target { result ≡ reached split ram.now.memory state.now need }
-    ensures sights { Noted ram.now.memory sights.old sights.new (places_of_access split ram.now.memory state.now need) }
+    requires room { rec.old.walked + 4 ≤ 6 }
+    ensures target { result ≡ (reached here.now need).end }
+    ensures told { rec.new ≡ told (reached here.now need).looks rec.old }
 {
     if need.va % need.len as u32 == 0 {
-        return reach_whole(ram, state, need, sights);
+        return reach_whole(here, need, rec);
     }
-    if split && is_plain(need.access) {
-        return reach_split(ram, state, need, sights);
+    if here.split && is_plain(need.access) {
+        return reach_split(here, need, rec);
     }
     Err(Stop::Trap {
         cause: misaligned_cause(need.access),

@@ -26,8 +26,8 @@ pub struct Touch {
     pub bytes: [u8; 4],
 }
 
-/// A step that was carried out. A step that ended in a trap or an interrupt has read and written nothing but table entries
-/// and the word of its instruction.
+/// A step that was carried out. A step that ended in a trap or an interrupt has read and written nothing but table
+/// entries and the word of its instruction.
 #[derive(Clone, Copy, Debug, PartialEq, Eq)]
 pub struct StepRec {
     /// The state before the step, once the lines were set.
@@ -57,8 +57,8 @@ pub struct StepRec {
 }
 
 impl StepRec {
-    /// A record that tells nothing yet.
-    pub(crate) const BLANK: StepRec = StepRec {
+    /// A record that tells nothing, for a step to be told in.
+    pub const BLANK: StepRec = StepRec {
         before: State {
             pc: 0,
             x: [0; 32],

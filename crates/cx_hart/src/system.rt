@@ -1,44 +1,32 @@
 //! Instructions that call, break and return from traps, and those that ask for nothing.
 
-ghost use Rattle.std.specs.Prelude.{◌≡◌, ◌+◌};
+ghost use Rattle.std.specs.Prelude.{◌≡◌};
 ghost use Rattle.cx_decode.specs.WellFormed.{WellFormed};
-ghost use Rattle.cx_trap.specs.Return.{can_mret, can_sret};
-ghost use Rattle.cx_hart.specs.System.{computed, done_with, goes_to, system};
+ghost use Rattle.cx_hart.specs.System.{computed, returned, system};
 
-use crate::access::carried_out;
+use crate::effect::{instruction_effect, retired_with};
+use crate::findings::{Control, Retired, Stop};
 use crate::legal::{illegal, is_barred};
-use crate::turn::{Control, Retired, Stop};
-use cx_csr::{State, is_bit_set};
+use cx_csr::State;
+use cx_csr::causes::{BREAKPOINT, CALL_FROM_USER};
 use cx_decode::{Ins, Op};
 use cx_exec::{Effect, Got};
+use cx_trap::{can_mret, can_sret};
 
-/// What an instruction retires with that neither reads nor writes memory.
+/// What a return from a trap retires with, which goes on at `pc`.
 #[inline]
-fn done_with(state: &State, control: Control, effect: Effect) -> Retired
-    ensures { result ≡ done_with state.now control effect }
+fn returned(state: &State, control: Control, pc: u32) -> Retired
+    ensures { result ≡ returned state.now control pc }
 {
-    Retired {
-        effect,
-        control,
-        reservation: state.reservation,
-        read: None,
-        read_more: None,
-        write: None,
-        write_more: None,
-        value: None,
-        result: None,
-    }
-}
-
-/// The effect of going on at another place.
-fn goes_to(pc: u32) -> Effect
-    ensures { result ≡ goes_to pc }
-{
-    Effect {
+    let effect = Effect {
         rd: 0,
         value: 0,
         pc,
         write: None,
+    };
+    Retired {
+        control,
+        ..retired_with(state, effect)
     }
 }
 
@@ -50,24 +38,17 @@ pub(crate) fn system(word: u32, state: &State, op: Op) -> Result<Retired, Stop>
 {
     match op {
         Op::Ecall => Err(Stop::Trap {
-            cause: 8 + state.mode as u32,
+            cause: CALL_FROM_USER + state.mode as u32,
             tval: 0,
         }),
         Op::Ebreak => Err(Stop::Trap {
-            cause: 3,
+            cause: BREAKPOINT,
             tval: state.pc,
         }),
-        Op::Mret if state.mode == 3 => Ok(done_with(state, Control::Mret, goes_to(state.csr.mepc))),
-        Op::Sret if can_sret(state) => Ok(done_with(state, Control::Sret, goes_to(state.csr.sepc))),
+        Op::Mret if can_mret(state) => Ok(returned(state, Control::Mret, state.csr.mepc)),
+        Op::Sret if can_sret(state) => Ok(returned(state, Control::Sret, state.csr.sepc)),
         _ => Err(illegal(word)),
     }
-}
-
-/// Whether a return from a trap to supervisor mode is legal.
-fn can_sret(state: &State) -> bool
-    ensures { result ≡ can_sret state.now }
-{
-    state.mode == 3 || state.mode == 1 && !is_bit_set(state.csr.mstatus, 22)
 }
 
 /// An instruction that asks for nothing.
@@ -80,6 +61,6 @@ pub(crate) fn computed(word: u32, state: &State, ins: &Ins) -> Result<Retired, S
     if is_barred(state, ins.op) {
         return Err(illegal(word));
     }
-    let effect = carried_out(state, ins, Got::Nothing)?;
-    Ok(done_with(state, Control::Untouched, effect))
+    let effect = instruction_effect(state, ins, Got::Nothing)?;
+    Ok(retired_with(state, effect))
 }

@@ -1,78 +1,69 @@
-//! What the phases of a step find, before anything changes.
+//! One turn of the hart, up to where it ends.
 
-use crate::answer::Asked;
-use crate::record::Touch;
-use cx_exec::{Effect, Got};
+ghost use Rattle.std.specs.Prelude.{◌≡◌, ◌+◌, ◌%◌, ◌≤◌};
+ghost use Rattle.cx_decode.specs.WellFormed.{WellFormed};
+ghost use Rattle.cx_exec.specs.Asking.{ask_of};
+ghost use Rattle.cx_hart.specs.Looks.{told};
+ghost use Rattle.cx_hart.specs.Turn.{done_without_access, executed, turn};
 
-/// Why a step ends before its instruction retires.
-#[derive(Clone, Copy, Debug, PartialEq, Eq)]
-pub(crate) enum Stop {
-    /// It asks the outside for a value, and none is due.
-    Asks(Asked),
-    /// It takes the interrupt of this number.
-    Interrupt(u32),
-    /// It takes an exception, with the address or the word that it is taken for.
-    Trap { cause: u32, tval: u32 },
+use crate::access::accessed;
+use crate::control::controlled;
+use crate::fetch::fetched;
+use crate::findings::{Retired, Stop};
+use crate::here::Here;
+use crate::legal::instruction;
+use crate::record::StepRec;
+use crate::system::{computed, system};
+use cx_decode::Ins;
+use cx_exec::{Ask, ask};
+use cx_trap::pending;
+
+/// An instruction that asks for no access to memory.
+#[inline]
+#[tactic(auto, using(crate::proofs::Needs::control_number))]
+fn done_without_access(here: &Here, word: u32, ins: &Ins, ask: Ask) -> Result<Retired, Stop>
+    requires formed { WellFormed ins.now }
+    requires ask { ask ≡ ask_of ins.now here.now.state.pc here.now.state.x }
+    ensures { result ≡ done_without_access here.now word ins.now ask }
+{
+    // The rare results are bound apart, so that the common one is written once, to where the caller wants it.
+    let rare = match ask {
+        Ask::Csr => controlled(here, word, ins),
+        Ask::System => system(word, here.state, ins.op),
+        _ => return computed(word, here.state, ins),
+    };
+    rare
 }
 
-/// Bytes of an access that lie in one page: their virtual address, their place in RAM, and how many they are.
-#[derive(Clone, Copy, Debug, PartialEq, Eq)]
-pub(crate) struct Part {
-    pub va: u32,
-    pub pa: u32,
-    pub len: u8,
+/// An instruction carried out.
+#[inline]
+#[tactic(auto, unfolding(crate::specs::Turn::executed), using(crate::proofs::Needs::need_length))]
+fn executed(here: &Here, word: u32, ins: &Ins, rec: &mut StepRec) -> Result<Retired, Stop>
+    requires formed { WellFormed ins.now }
+    requires room { rec.old.walked + 4 ≤ 6 }
+    ensures retired { result ≡ (executed here.now word ins.now).end }
+    ensures told { rec.new ≡ told (executed here.now word ins.now).looks rec.old }
+{
+    let ask = ask(ins, here.state.pc, &here.state.x);
+    if let Some(need) = ask.need() {
+        return accessed(here, ins, need, rec);
+    }
+    done_without_access(here, word, ins, ask)
 }
 
-/// Where the bytes of an access stand.
-#[derive(Clone, Copy, Debug, PartialEq, Eq)]
-pub(crate) enum Target {
-    /// In RAM, the bytes of the next page apart.
-    Memory { first: Part, more: Option<Part> },
-    /// They are the word of a device.
-    Device(Part),
-}
-
-/// What an access gives to its instruction.
-#[derive(Clone, Copy, Debug, PartialEq, Eq)]
-pub(crate) struct Reading {
-    /// The answer to the instruction's ask.
-    pub got: Got,
-    /// What it read, up to the end of a page and from there on.
-    pub read: Option<Touch>,
-    pub read_more: Option<Touch>,
-    /// The value of the outside that it took.
-    pub value: Option<u32>,
-}
-
-/// What a retired instruction does to control registers, but for pc and the counters.
-#[derive(Clone, Copy, Debug, PartialEq, Eq)]
-pub(crate) enum Control {
-    /// Nothing.
-    Untouched,
-    /// It writes the register of this number.
-    Write { number: u16, value: u32 },
-    /// It returns from a trap to machine mode.
-    Mret,
-    /// It returns from a trap to supervisor mode.
-    Sret,
-}
-
-/// All that a retired instruction reads, takes and leaves.
-#[derive(Clone, Copy, Debug, PartialEq, Eq)]
-pub(crate) struct Retired {
-    /// The value for a register, and the next pc.
-    pub effect: Effect,
-    /// What it does to control registers.
-    pub control: Control,
-    /// The reservation behind it.
-    pub reservation: Option<u32>,
-    /// What it reads and writes, up to the end of a page and from there on.
-    pub read: Option<Touch>,
-    pub read_more: Option<Touch>,
-    pub write: Option<Touch>,
-    pub write_more: Option<Touch>,
-    /// The value of the outside that it took.
-    pub value: Option<u32>,
-    /// What an SC or a read of a counter gave.
-    pub result: Option<u32>,
+/// One turn: an interrupt is to be taken, or one instruction is fetched and carried out, as far as nothing changes.
+#[inline]
+#[tactic(auto, unfolding(crate::specs::Turn::turn), using(crate::proofs::Telling::told_append))]
+pub(crate) fn turn(here: &Here, rec: &mut StepRec) -> Result<Retired, Stop>
+    requires aligned { here.now.state.pc % 4 ≡ 0 }
+    requires fresh { rec.old.walked ≡ 0 }
+    ensures retired { result ≡ (turn here.now).end }
+    ensures told { rec.new ≡ told (turn here.now).looks rec.old }
+{
+    if let Some(number) = pending(here.state) {
+        return Err(Stop::Interrupt(number));
+    }
+    let word = fetched(here, rec)?;
+    let ins = instruction(word)?;
+    executed(here, word, &ins, rec)
 }

@@ -1,12 +1,13 @@
 //! RAM as the view of memory that walks go over.
 
-ghost use Rattle.std.specs.Prelude.{◌≡◌, ◌+◌, ◌%◌, ◌^◌, ◌≤◌, ◌⊎◌, OnSome};
+ghost use Rattle.std.specs.Prelude.{◌≡◌, ◌+◌, ◌%◌, ◌^◌, ◌≤◌, ◌⊎◌, OnSome, length};
+ghost use Rattle.cx_map.specs.Map.{IsInRam, ram_index};
 ghost use Rattle.cx_ram.specs.LittleEndian.{loaded};
-ghost use Rattle.cx_ram.specs.PhysicalMemory.{IsInRam, ram_index};
-ghost use Rattle.cx_walk.specs.Bytes.{ram_bytes, word_at};
+ghost use Rattle.cx_walk.specs.Bytes.{ram_bytes, word_in};
 ghost use Rattle.cx_hart.specs.Fetch.{walk_in};
 
-use cx_csr::State;
+use crate::here::Here;
+use cx_map::{PAGE_SIZE, RAM_START};
 use cx_ram::Ram;
 use cx_walk::{Kind, Walk, Words, translate};
 
@@ -18,8 +19,8 @@ pub(crate) struct View<'a> {
 
 impl<'a> Words for View<'a> {
     ghost use Rattle.std.specs.Prelude.{◌≡◌, ℕ, ◌+◌, ◌^◌, ◌≤◌, Option, OnSome};
-    ghost use Rattle.cx_walk.specs.Bytes.{ram_bytes, word_at};
-    ghost use Rattle.cx_hart.specs.Machine.{pages_of};
+    ghost use Rattle.cx_walk.specs.Bytes.{ram_bytes, word_in};
+    ghost use Rattle.cx_machine.specs.Machine.{pages_of};
 
     ghost pages = { λ v. pages_of v.ram.now.memory };
 
@@ -31,7 +32,7 @@ impl<'a> Words for View<'a> {
 
     #[tactic(auto, using(crate::proofs::RamWords::word_beyond))]
     fn word(&self, pa: u64) -> Option<u32> {
-        let end = 0x8000_0000 + u64::from(self.ram.pages()) * 4096;
+        let end = u64::from(RAM_START) + u64::from(self.ram.pages()) * PAGE_SIZE as u64;
         if pa > end - 4 {
             return None;
         }
@@ -43,7 +44,7 @@ impl<'a> Words for View<'a> {
 #[inline]
 #[tactic(auto, using(crate::proofs::RamWords::word_inside, crate::proofs::RamWords::word_outside))]
 pub(crate) fn word_of(ram: &Ram, pa: u32) -> Option<u32>
-    ensures word { result ≡ word_at (ram_bytes ram.now.memory) pa }
+    ensures word { result ≡ word_in (ram_bytes ram.now.memory) pa }
     ensures below { OnSome result (pa + 4 ≤ 2 ^ 32) }
 {
     if !ram.contains(pa, 4) {
@@ -59,7 +60,7 @@ pub(crate) fn word_of(ram: &Ram, pa: u32) -> Option<u32>
 #[cold]
 #[tactic(auto, using(crate::proofs::RamWords::word_of_bytes))]
 fn split_word(ram: &Ram, pa: u32) -> u32
-    requires ram { IsInRam ram.now.memory pa 4 }
+    requires ram { IsInRam (length ram.now.memory) pa 4 }
     requires below { pa + 4 ≤ 2 ^ 32 }
     ensures { result ≡ loaded ram.now.memory (ram_index pa) 4 }
 {
@@ -74,10 +75,10 @@ fn split_word(ram: &Ram, pa: u32) -> u32
 /// Translates the address of an access to RAM.
 #[inline]
 #[tactic(auto, unfolding(crate::specs::Fetch::walk_in))]
-pub(crate) fn walk(ram: &Ram, state: &State, kind: Kind, va: u32, len: u8) -> Walk
+pub(crate) fn walk(here: &Here, kind: Kind, va: u32, len: u8) -> Walk
     requires length { (len ≡ 1) ⊎ (len ≡ 2) ⊎ (len ≡ 4) }
     requires aligned { va % len ≡ 0 }
-    ensures { result ≡ walk_in ram.now.memory state.now kind va len }
+    ensures { result ≡ walk_in here.now kind va len }
 {
-    translate(&View { ram }, state, kind, va, len)
+    translate(&View { ram: here.ram }, here.state, kind, va, len)
 }

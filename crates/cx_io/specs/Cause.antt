@@ -1,7 +1,8 @@
 -- What an error has to show for itself: a count of faults that rose in the call that answers it.
 use Rattle.std.specs.Prelude.{ℕ, ◌+◌, ◌-◌, ◌^◌, ◌<◌, ◌≤◌, Result, IsErrOf, min}
 
--- A count of faults rose from before to now: it is greater, or stands at the greatest number of 64 bits, where it stays.
+-- A count of faults rose from before to now: it is greater, or stands at the greatest number of 64 bits, where it
+-- stays.
 abbrev pub Rose : ℕ → ℕ → Type 0
 Rose before now = min (before + 1) (2 ^ 64 - 1) ≤ now
 

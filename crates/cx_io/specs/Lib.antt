@@ -1,4 +1,5 @@
 pub mod Cause
+pub mod Input
 pub mod MemorySink
 pub mod MemorySource
 pub mod Plan

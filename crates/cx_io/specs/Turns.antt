@@ -1,5 +1,21 @@
 -- What a turn of a world does to the list of the answers that it has given.
-use Rattle.std.specs.Prelude.{◌≡◌, ◌^◌, ◌≤◌, List, [], ◌∷◌, ◌++◌, length, Option, None, Some, MatchOption, Result, Ok, Err}
+use Rattle.std.specs.Prelude.{
+  ◌≡◌,
+  ◌^◌,
+  ◌≤◌,
+  List,
+  [],
+  ◌∷◌,
+  ◌++◌,
+  length,
+  Option,
+  None,
+  Some,
+  MatchOption,
+  Result,
+  Ok,
+  Err,
+}
 use Rattle.cx_io.specs.declared.outside.Outside.{Outside}
 use Rattle.cx_io.specs.declared.outside.Failed.{Failed}
 

@@ -1,6 +1,22 @@
 //! A sink that keeps its bytes in memory, with faults where its maker wants them.
 
-ghost use Rattle.std.specs.Prelude.{◌≡◌, ◌↔◌, ℕ, ◌<◌, ◌≤◌, List, [], ◌++◌, Option, length, if◌then◌else◌, IfOk, IsTrue, OnOk, OnErr};
+ghost use Rattle.std.specs.Prelude.{
+  ◌≡◌,
+  ◌↔◌,
+  ℕ,
+  ◌<◌,
+  ◌≤◌,
+  List,
+  [],
+  ◌++◌,
+  Option,
+  length,
+  if◌then◌else◌,
+  IfOk,
+  IsTrue,
+  OnOk,
+  OnErr,
+};
 ghost use Rattle.std.specs.Io.{WritesAtMost};
 ghost use Rattle.std.specs.Io.KnownBytes.{Keeps, WriteAppends};
 ghost use Rattle.cx_io.specs.Cause.{HasCause};
@@ -46,8 +62,8 @@ impl MemSink {
         self.bytes.as_slice()
     }
 
-    /// A write of the whole piece to a sink whose list of failures is empty: only memory can be refused, and the count of
-    /// faults stays.
+    /// A write of the whole piece to a sink whose list of failures is empty: only memory can be refused, and the count
+    /// of faults stays.
     pub fn write_surely(&mut self, bytes: &[u8]) -> Result<(), NoMemory>
         requires { self.old.plan.fails ≡ [] }
         ensures ok { OnOk result (self.new.held ≡ self.old.held ++ bytes.now) }

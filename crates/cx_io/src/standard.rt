@@ -4,14 +4,15 @@ ghost use Rattle.std.specs.Prelude.{◌≡◌, ℕ, ◌<◌, ◌≤◌, if◌the
 ghost use Rattle.std.specs.Io.{ReadsAtMost, WritesAtMost};
 ghost use Rattle.std.specs.Io.KnownBytes.{Keeps, ReadConsumes, WriteAppends};
 ghost use Rattle.cx_io.specs.Cause.{HasCause};
+ghost use Rattle.cx_io.specs.Input.{AreTold, GivesMore};
 ghost use Rattle.cx_io.specs.Plan.{one_more};
 
 use crate::{Failed, Sink, SinkRefusal, Source};
 use std::io::{Read, Write};
 use std::marker::Model;
 
-/// A source over a reader of the process, as its standard input. Each error of the reader is a fault. It keeps no buffer
-/// of its own.
+/// A source over a reader of the process, as its standard input. Each error of the reader is a fault. It keeps no
+/// buffer of its own.
 #[derive(Drop)]
 pub struct StdSource<R> {
     input: R,
@@ -35,9 +36,11 @@ impl<R: Read> StdSource<R> {
 }
 
 impl<R: Read> Source for StdSource<R> {
-    ghost use Rattle.std.specs.Prelude.{None};
+    ghost use Rattle.std.specs.Prelude.{None, []};
 
     ghost left = { λ s. None };
+
+    ghost given = { λ s. [] };
 
     ghost faults = { λ s. s };
 
@@ -45,6 +48,7 @@ impl<R: Read> Source for StdSource<R> {
     fn read(&mut self, buf: &mut [u8]) -> Result<usize, Failed>
         ensures bound { ReadsAtMost result buf.new }
         ensures bytes { ReadConsumes None None result buf.new }
+        ensures given { GivesMore None [] [] result buf.new }
         ensures cause { HasCause (record {}) self.old self.new result }
         ensures count { self.new ≡ (if is_err result then one_more self.old else self.old) }
     {
@@ -56,6 +60,8 @@ impl<R: Read> Source for StdSource<R> {
             }
         }
     }
+
+    fn tells_bytes(&self) {}
 }
 
 /// A sink over a writer of the process, as its standard output. Each error of the writer is a fault, and so is a piece

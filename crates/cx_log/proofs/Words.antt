@@ -1,12 +1,18 @@
 -- The words of a state, read one after another.
-use Rattle.std.proofs.Common.{◌≡◌, ℕ, zero, suc, ◌+◌, ◌-◌, ◌<◌, ◌≤◌, List, [], ◌∷◌, ◌++◌, length, take, get_or, set, arith, refl, ap, sym, ◌∙◌, Result, Ok, Err, Option, None, Some, append_assoc, append-nil, below_more, ◌≢◌}
+use Rattle.std.proofs.Common.{◌≡◌, ℕ, zero, suc, ◌+◌, ◌-◌, ◌<◌, ◌≤◌, List, [], ◌∷◌, ◌++◌, length, take, get_or, set, arith, refl, ap, sym, ◌∙◌, Result, Ok, Err, IsSome, append_assoc, append-nil, below_more, ◌≢◌}
 use Rattle.std.proofs.lemmas.List.{take_more_set, get_or-set_same, get_or-set_other, take_all}
 use Rattle.cx_csr.specs.declared.rules.Rule.{Rule}
 use Rattle.cx_csr.specs.declared.rules.Rule.TheVariants.{Aligned}
 use Rattle.cx_csr.specs.Rules.{Admits, AllFit, FitsAt, admits, rule_at}
-use Rattle.cx_codec.specs.Place.{Place, FailsAt, read_on, done}
+use Rattle.cx_codec.specs.Place.{Place, read_on, done}
 use Rattle.cx_codec.specs.Fields.{word_at}
-use Rattle.cx_log.specs.Reading.{checked, words_at, state_words_at}
+use Rattle.cx_codec.specs.Reads.{Begins, Standing, Follows, Reads, place_in}
+use Rattle.cx_codec.proofs.Composing.{meets_along}
+use Rattle.cx_codec.proofs.Following.{begins_on, follows_none, follows_on, end_stays}
+use Rattle.cx_log.specs.declared.fault.LogFault.{LogFault}
+use Rattle.cx_log.specs.Fault.{log_met}
+use Rattle.cx_log.specs.Fields.{checked}
+use Rattle.cx_log.specs.Reading.{words_at, state_words_at}
 
 -- these words, in front of those that are read
 abbrev pub with_front : List ℕ → Result (List ℕ × Place) ℕ → Result (List ℕ × Place) ℕ
@@ -41,9 +47,8 @@ one_more pages first words i before word here after few size so_far read =
     let step = words_step pages (58 - i) i before here (omega arith) in
     record { read = so_far.read ∙ rw (step, read, left) (behind_front (take i words) word (words_at pages (58 - (i + 1)) (i + 1) word after) ∙ ap (λ (xs : List ℕ). with_front xs (words_at pages (58 - (i + 1)) (i + 1) word after)) (sym (take_more_set words i word inside))) }
 
-pub not_one_more : (pages : ℕ) (first : Place) (words : List ℕ) (i before : ℕ) (here : Place) (fault : Option ℕ) → i < 58 → SoFar pages first words i before here → FailsAt fault (checked (λ w. admits pages before (rule_at i) w) word_at here) → FailsAt fault (state_words_at pages first)
-not_one_more pages first words i before here None few so_far read = tt
-not_one_more pages first words i before here (Some o) few so_far read =
+pub not_one_more : (pages : ℕ) (first : Place) (words : List ℕ) (i before o : ℕ) (here : Place) → i < 58 → SoFar pages first words i before here → checked (λ w. admits pages before (rule_at i) w) word_at here ≡ Err o → state_words_at pages first ≡ Err o
+not_one_more pages first words i before o here few so_far read =
     let step = words_step pages (58 - i) i before here (omega arith) in
     so_far.read ∙ rw (step, read) refl
 
@@ -51,6 +56,42 @@ pub all_words : (pages : ℕ) (first : Place) (words : List ℕ) (i before : ℕ
 all_words pages first words i before here all size so_far =
     let none : 58 - i ≡ 0 = omega arith in
     so_far.read ∙ rw none (ap (λ (xs : List ℕ). Ok (xs, here)) (append-nil (take i words) ∙ take_all i words (omega arith)))
+
+-- In every input that begins with what was given, the words so far were read.
+pub record WordsRead (pages : ℕ) (first here : Standing) (words : List ℕ) (i before : ℕ) : Type 0 where
+  pub follows : Follows first here
+  pub read : (input : List ℕ) → Begins here.given input → SoFar pages (place_in first input) words i before (place_in here input)
+
+pub none_read : (pages : ℕ) (s : Standing) (words : List ℕ) → IsSome s.left → WordsRead pages s s words 0 0
+none_read pages s words told = record { follows = follows_none s told; read = λ input begins. none_yet pages (place_in s input) words }
+
+pub word_read : {first here new : Standing} (pages : ℕ) (words : List ℕ) (i before word : ℕ) → i < 58 → length words ≡ 58
+    → WordsRead pages first here words i before → Reads log_met (λ (w : ℕ). w) (checked (λ w. admits pages before (rule_at i) w) word_at) here new (Ok word)
+    → WordsRead pages first new (set words i word) (i + 1) word
+word_read {first} {here} {new} pages words i before word few size so_far read = record {
+  follows = follows_on so_far.follows read.follows;
+  read = λ input begins. one_more pages (place_in first input) words i before word (place_in here input) (place_in new input) few size
+      (so_far.read input (begins_on read.follows.grows begins)) (read.reads input begins);
+}
+
+pub word_missing : {first here new : Standing} {e e' : LogFault} (pages : ℕ) (words : List ℕ) (i before : ℕ) → i < 58 → log_met e' ≡ log_met e
+    → WordsRead pages first here words i before → Reads log_met (λ (w : ℕ). w) (checked (λ w. admits pages before (rule_at i) w) word_at) here new (Err e)
+    → Reads log_met (λ (ws : List ℕ). ws) (state_words_at pages) first new (Err e')
+word_missing {first} {here} {new} {e} pages words i before few same so_far read = record {
+  follows = follows_on so_far.follows read.follows;
+  reads = λ input begins.
+      let earlier = begins_on read.follows.grows begins in
+      rw same (meets_along (log_met e) (checked (λ w. admits pages before (rule_at i) w) word_at (place_in here input)) (state_words_at pages (place_in first input)) _ _ _ _
+      (λ o bad. not_one_more pages (place_in first input) words i before o (place_in here input) few (so_far.read input earlier) bad)
+      (end_stays so_far.follows input earlier) (read.reads input begins));
+}
+
+pub words_read : {first here : Standing} (pages : ℕ) (words : List ℕ) (i before : ℕ) → i ≡ 58 → length words ≡ 58 → WordsRead pages first here words i before
+    → Reads log_met (λ (ws : List ℕ). ws) (state_words_at pages) first here (Ok words)
+words_read {first} {here} pages words i before all size so_far = record {
+  follows = so_far.follows;
+  reads = λ input begins. all_words pages (place_in first input) words i before (place_in here input) all size (so_far.read input begins);
+}
 
 -- The words so far fit, and before is the last of them.
 pub record FitsSoFar (pages : ℕ) (words : List ℕ) (i before : ℕ) : Type 0 where

@@ -1,7 +1,11 @@
-pub mod Memory
 pub mod Recording
+pub mod Kind
 pub mod Order
 pub mod Text
+pub mod Fields
 pub mod Reading
+pub mod Records
+pub mod Scan
+pub mod Item
 pub mod Fault
 pub mod Engine

@@ -1,93 +1,58 @@
-//! Writing a recording to a sink.
+//! Writing a recording to a sink, record by record.
 
-ghost use Rattle.std.specs.Prelude.{◌≡◌, ℕ, ◌+◌, ◌-◌, ◌^◌, ◌<◌, ◌≤◌, List, [], ◌++◌, false, true, length, min, is_ok, IfOk, OnOk, OnErr, IsSome, IsTrue, Option};
-ghost use Rattle.std.specs.Io.KnownBytes.{Appends};
-ghost use Rattle.cx_io.specs.Cause.{HasCause};
-ghost use Rattle.cx_codec.specs.Blocks.{StandsFor, HasFront};
+ghost use Rattle.std.specs.Prelude.{◌≡◌, ◌+◌, ◌<◌, ◌≤◌, [], ◌++◌, false, OnOk, IfOk, IsTrue};
+ghost use Rattle.cx_codec.specs.Puts.{Finishes, Puts, Starts, onto};
 ghost use Rattle.cx_codec.specs.Varint.{varint};
-ghost use Rattle.cx_log.specs.Memory.{is_zero};
-ghost use Rattle.cx_log.specs.Order.{IsHeader, MayEnd, at_start, next_mark};
-ghost use Rattle.cx_log.specs.Text.{header_text, words_text, end_text};
+ghost use Rattle.cx_ram.specs.PhysicalMemory.{is_zero};
+ghost use Rattle.cx_log.specs.Engine.{IsStarted, output_of};
+ghost use Rattle.cx_log.specs.Item.{MayStand, behind_entry, dma_event, entry_of, entry_text, is_end};
+ghost use Rattle.cx_log.specs.Order.{IsHeader, MayEnd, MayFollow, behind_it};
+ghost use Rattle.cx_log.specs.Text.{end_text, header_text, record_text};
 
 use crate::header::Header;
-use crate::reader::PAGE;
+use crate::item::{Item, What};
+use crate::kind::Kind;
+use crate::order::Behind;
+use crate::text::{put_dma, put_header, put_page, put_start, put_what};
 use cx_codec::{Out, OutFault};
 use cx_io::Sink;
+use cx_map::PAGE_SIZE;
 use std::alloc::Global;
 use std::marker::Model;
 
-/// A writer of one recording. After a refusal it has ended.
+/// A writer of one recording: its header, its pages, its records, and End. After a refusal it has ended, and the sink holds a
+/// front of what was put. `WriteFault` comes only where the sink's count of faults rose, and `NoMemory` where memory is
+/// refused, to `start` or by the sink.
 #[derive(Drop)]
 pub struct LogWriter {
     out: Out,
     header: Header,
     left: u32,
     least: u32,
+    behind: Behind,
 }
 
 impl Model for LogWriter {
-    ghost use Rattle.cx_log.specs.Engine.{Writing};
+    ghost use Rattle.cx_log.specs.Engine.{IsAmong, Writing};
 
     ghost Value = { Writing };
 
-    ghost view = { λ w. record { output = w.out; header = w.header; left = w.left; least = w.least } };
-}
+    ghost view = { λ w. record { output = w.out; header = w.header; left = w.left; least = w.least; behind = w.behind } };
 
-// Puts words one after another.
-fn put_words<T: Sink>(out: &mut Out, words: &[u32], sink: &mut T) -> Result<(), OutFault>
-    requires { IsTrue out.old.live }
-    ensures told { IsSome (T.held sink.old) → IsSome (T.held sink.new) }
-    ensures stands { OnOk result ((base : Option (List ℕ)) (put : List ℕ) →
-        StandsFor base put out.old.bytes (T.held sink.old) → StandsFor base (put ++ words_text words.now) out.new.bytes (T.held sink.new)) }
-    ensures refused { OnErr result ((base : Option (List ℕ)) (put : List ℕ) →
-        StandsFor base put out.old.bytes (T.held sink.old) → HasFront base (put ++ words_text words.now) (T.held sink.new)) }
-    ensures live { out.new.live ≡ is_ok result }
-    ensures cause { HasCause OutFault.WriteFault (T.faults sink.old) (T.faults sink.new) result }
-{
-    for word in words {
-        out.put_word(*word, sink)?;
-    }
-    Ok(())
-}
-
-// Puts what stands before the pages.
-#[tactic(auto, using(crate::proofs::Puts::regroup), unfolding(crate::specs::Text::header_text))]
-fn put_header<T: Sink>(out: &mut Out, header: &Header, sink: &mut T) -> Result<(), OutFault>
-    requires { IsTrue out.old.live }
-    ensures told { IsSome (T.held sink.old) → IsSome (T.held sink.new) }
-    ensures stands { OnOk result ((base : Option (List ℕ)) (put : List ℕ) → StandsFor base put out.old.bytes (T.held sink.old) →
-        StandsFor base (put ++ header_text header.now.pages header.now.base header.now.start header.now.count) out.new.bytes (T.held sink.new)) }
-    ensures refused { OnErr result ((base : Option (List ℕ)) (put : List ℕ) → StandsFor base put out.old.bytes (T.held sink.old) →
-        HasFront base (put ++ header_text header.now.pages header.now.base header.now.start header.now.count) (T.held sink.new)) }
-    ensures live { out.new.live ≡ is_ok result }
-    ensures cause { HasCause OutFault.WriteFault (T.faults sink.old) (T.faults sink.new) result }
-{
-    out.put_bytes(b"CXR1", sink)?;
-    out.put_varint(header.pages as u64, sink)?;
-    out.put_varint(header.base, sink)?;
-    put_words(out, &header.start.to_words(), sink)?;
-    out.put_varint(header.count as u64, sink)
+    ghost invariant = { λ w. IsAmong w.header w.least w.behind };
 }
 
 impl LogWriter {
-    /// Begins a recording with its magic and header; the pages that it counts follow, then End. `WriteFault` comes only
-    /// where the sink's count of faults rose, and `NoMemory` where memory is refused, here or by the sink. After a refusal
-    /// the sink holds a front of what was put.
+    /// Begins a recording with its magic and header; the pages that it counts follow, then the records.
     pub fn start<T: Sink>(
         alloc: Global,
         header: &Header,
         sink: &mut T,
     ) -> Result<LogWriter, OutFault>
         requires { IsHeader header.now }
-        ensures told { IsSome (T.held sink.old) → IsSome (T.held sink.new) }
-        ensures stands { IfOk result (λ w. StandsFor (T.held sink.old)
-            (header_text header.now.pages header.now.base header.now.start header.now.count) w.output.bytes (T.held sink.new)) }
-        ensures refused { OnErr result (HasFront (T.held sink.old)
-            (header_text header.now.pages header.now.base header.now.start header.now.count) (T.held sink.new)) }
-        ensures header { IfOk result (λ w. w.header ≡ header.now) }
-        ensures owed { IfOk result (λ w. (w.left ≡ header.now.count) × (w.least ≡ 0)) }
-        ensures live { IfOk result (λ w. IsTrue w.output.live) }
-        ensures cause { HasCause OutFault.WriteFault (T.faults sink.old) (T.faults sink.new) result }
+        ensures starts { Starts OutFault.WriteFault (header_text header.now) output_of
+            (T.held sink.old) (T.held sink.new) (T.faults sink.old) (T.faults sink.new) result }
+        ensures started { IfOk result (IsStarted header.now) }
     {
         let mut out = Out::new(alloc)?;
         put_header(&mut out, header, sink)?;
@@ -96,6 +61,7 @@ impl LogWriter {
             header: *header,
             left: header.count,
             least: 0,
+            behind: Behind::at_start(header.base, &header.start),
         })
     }
 
@@ -106,12 +72,11 @@ impl LogWriter {
         self.out.live()
     }
 
-    /// Writes the next page, which isn't all zero and lies above the last one. It is refused as the header is.
-    #[tactic(auto, using(crate::proofs::Puts::regroup))]
+    /// Writes the next page, which isn't all zero and lies above the last one.
     pub fn page<T: Sink>(
         &mut self,
         number: u32,
-        bytes: &[u8; PAGE],
+        bytes: &[u8; PAGE_SIZE],
         sink: &mut T,
     ) -> Result<(), OutFault>
         requires live { IsTrue self.old.output.live }
@@ -119,41 +84,72 @@ impl LogWriter {
         requires rising { self.old.least ≤ number }
         requires below { number < self.old.header.pages }
         requires some { is_zero bytes.now ≡ false }
-        ensures told { IsSome (T.held sink.old) → IsSome (T.held sink.new) }
-        ensures stands { OnOk result ((base : Option (List ℕ)) (put : List ℕ) → StandsFor base put self.old.output.bytes (T.held sink.old) →
-            StandsFor base (put ++ (varint number ++ bytes.now)) self.new.output.bytes (T.held sink.new)) }
-        ensures refused { OnErr result ((base : Option (List ℕ)) (put : List ℕ) → StandsFor base put self.old.output.bytes (T.held sink.old) →
-            HasFront base (put ++ (varint number ++ bytes.now)) (T.held sink.new)) }
-        ensures header { self.new.header ≡ self.old.header }
-        ensures left { OnOk result (self.new.left + 1 ≡ self.old.left) }
-        ensures next { OnOk result (self.new.least ≡ number + 1) }
-        ensures live { self.new.output.live ≡ is_ok result }
-        ensures cause { HasCause OutFault.WriteFault (T.faults sink.old) (T.faults sink.new) result }
+        ensures puts { Puts OutFault.WriteFault (varint number ++ bytes.now)
+            (onto self.old.output (T.held sink.old) (T.faults sink.old)) (onto self.new.output (T.held sink.new) (T.faults sink.new)) result }
+        ensures turned { OnOk result ((self.new.least ≡ number + 1) × (self.new.left + 1 ≡ self.old.left)) }
+        ensures same { (self.new.header ≡ self.old.header) × (self.new.behind ≡ self.old.behind) }
     {
-        self.out.put_varint(number as u64, sink)?;
-        self.out.put_bytes(bytes, sink)?;
+        put_page(&mut self.out, number, bytes, sink)?;
         self.left -= 1;
         self.least = number + 1;
         Ok(())
     }
 
-    /// Writes End at a step, behind all pages that were owed, and hands all to the sink. It is refused as the header is.
-    #[tactic(auto, using(crate::proofs::Puts::regroup), unfolding(crate::specs::Text::end_text))]
+    /// Writes a Dma, behind all pages that were owed.
+    pub fn dma<T: Sink>(
+        &mut self,
+        step: u64,
+        place: u32,
+        bytes: &[u8],
+        sink: &mut T,
+    ) -> Result<(), OutFault>
+        requires live { IsTrue self.old.output.live }
+        requires none_owed { self.old.left ≡ 0 }
+        requires rules { MayFollow self.old.header.pages self.old.behind (record { step = step; event = dma_event bytes.now place }) }
+        ensures puts { Puts OutFault.WriteFault (record_text self.old.behind.step (record { step = step; event = dma_event bytes.now place }))
+            (onto self.old.output (T.held sink.old) (T.faults sink.old)) (onto self.new.output (T.held sink.new) (T.faults sink.new)) result }
+        ensures behind { OnOk result (self.new.behind ≡ behind_it self.old.behind (record { step = step; event = dma_event bytes.now place })) }
+        ensures same { (self.new.header ≡ self.old.header) × (self.new.left ≡ self.old.left) × (self.new.least ≡ self.old.least) }
+    {
+        let distance = step - self.behind.step;
+        put_start(&mut self.out, Kind::Dma, distance, sink)?;
+        put_dma(&mut self.out, place, bytes, sink)?;
+        self.behind = self.behind.after(&Item {
+            step,
+            what: What::Dma(place),
+        });
+        Ok(())
+    }
+
+    /// Writes any other record but End, behind all pages that were owed.
+    pub fn event<T: Sink>(&mut self, item: &Item, sink: &mut T) -> Result<(), OutFault>
+        requires live { IsTrue self.old.output.live }
+        requires none_owed { self.old.left ≡ 0 }
+        requires more { is_end item.now.what ≡ false }
+        requires rules { MayStand self.old.header.pages self.old.behind (entry_of [] item.now) }
+        ensures puts { Puts OutFault.WriteFault (entry_text self.old.behind.step (entry_of [] item.now))
+            (onto self.old.output (T.held sink.old) (T.faults sink.old)) (onto self.new.output (T.held sink.new) (T.faults sink.new)) result }
+        ensures behind { OnOk result (self.new.behind ≡ behind_entry self.old.behind (entry_of [] item.now)) }
+        ensures same { (self.new.header ≡ self.old.header) × (self.new.left ≡ self.old.left) × (self.new.least ≡ self.old.least) }
+    {
+        let distance = item.step - self.behind.step;
+        put_start(&mut self.out, item.what.kind(), distance, sink)?;
+        put_what(&mut self.out, &item.what, sink)?;
+        self.behind = self.behind.after(item);
+        Ok(())
+    }
+
+    /// Writes End at a step, behind all pages that were owed, and hands all to the sink.
     pub fn end<T: Sink>(self, end: u64, sink: &mut T) -> Result<(), OutFault>
         requires live { IsTrue self.output.live }
         requires none_owed { self.left ≡ 0 }
-        requires rules { MayEnd (at_start self.header.base self.header.start) end }
-        ensures told { IsSome (T.held sink.old) → IsSome (T.held sink.new) }
-        ensures written { OnOk result ((base : Option (List ℕ)) (put : List ℕ) → StandsFor base put self.output.bytes (T.held sink.old) →
-            Appends base (T.held sink.new) (put ++ end_text self.header.base end)) }
-        ensures refused { OnErr result ((base : Option (List ℕ)) (put : List ℕ) → StandsFor base put self.output.bytes (T.held sink.old) →
-            HasFront base (put ++ end_text self.header.base end) (T.held sink.new)) }
-        ensures cause { HasCause OutFault.WriteFault (T.faults sink.old) (T.faults sink.new) result }
+        requires rules { MayEnd self.behind end }
+        ensures { Finishes OutFault.WriteFault (end_text self.behind.step end)
+            (onto self.output (T.held sink.old) (T.faults sink.old)) (T.held sink.new) (T.faults sink.new) result }
     {
-        let base = self.header.base;
+        let distance = end - self.behind.step;
         let mut out = self.out;
-        out.put_byte(0, sink)?;
-        out.put_varint(end - base, sink)?;
+        put_start(&mut out, Kind::End, distance, sink)?;
         out.finish(sink)
     }
 }

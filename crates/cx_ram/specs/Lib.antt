@@ -1,4 +1,3 @@
 pub mod LittleEndian
 pub mod PhysicalMemory
-pub mod Transfers
 pub mod Agreement

@@ -1,22 +1,16 @@
--- What contracts see of the physical memory, and where it lies.
-use Rattle.std.specs.Prelude.{ℕ, ◌+◌, ◌-◌, ◌*◌, ◌%◌, ◌≤◌, List, length, take, drop}
+-- What contracts see of the physical memory, and its pages.
+use Rattle.std.specs.Prelude.{ℕ, ◌+◌, ◌*◌, ◌%◌, ◌==◌, ◌≤◌, Bool, List, length, take, drop}
+use Rattle.std.specs.List.{list_all}
+use Rattle.cx_map.specs.declared.TheConstants.{PAGE_SIZE}
 
 -- The bytes of RAM in order, and how many pages can still get a frame of their own without taking memory.
 pub record PhysicalMemory : Type 0 where
   pub memory : List ℕ
   pub spare : ℕ
 
--- RAM begins at place 0x8000_0000: the index of a place among its bytes.
-abbrev pub ram_index : ℕ → ℕ
-ram_index place = place - 0x8000_0000
-
--- The len bytes from a place on all lie in RAM.
-abbrev pub IsInRam : List ℕ → ℕ → ℕ → Type 0
-IsInRam memory place len = (0x8000_0000 ≤ place) × (place + len ≤ 0x8000_0000 + length memory)
-
--- The len bytes from a place on lie in one page of 4,096 bytes.
+-- The len bytes from a place on lie in one page.
 abbrev pub IsInOnePage : ℕ → ℕ → Type 0
-IsInOnePage place len = place % 4096 + len ≤ 4096
+IsInOnePage place len = place % PAGE_SIZE + len ≤ PAGE_SIZE
 
 -- A load or a store moves 1 to 4 bytes: three are a part of an access that goes on in the next page.
 abbrev pub IsAccessLength : ℕ → Type 0
@@ -24,8 +18,12 @@ IsAccessLength len = (1 ≤ len) × (len ≤ 4)
 
 -- RAM has the page of this number, counted from 0.
 abbrev pub IsPage : List ℕ → ℕ → Type 0
-IsPage memory page = 4096 * page + 4096 ≤ length memory
+IsPage memory page = page * PAGE_SIZE + PAGE_SIZE ≤ length memory
 
--- The bytes of a page.
+-- the bytes of a page
 abbrev pub page_of : List ℕ → ℕ → List ℕ
-page_of memory page = take 4096 (drop (page * 4096) memory)
+page_of memory page = take PAGE_SIZE (drop (page * PAGE_SIZE) memory)
+
+-- each of these bytes is 0
+abbrev pub is_zero : List ℕ → Bool
+is_zero bytes = list_all (λ b. b == 0) bytes

@@ -1,6 +1,7 @@
 //! Laws of loads and of writes on a flat list of bytes, for the layers that reason about memory.
 
 ghost use Rattle.std.specs.Prelude.{◌≡◌, ◌≢◌, ◌⊎◌, ℕ, ◌+◌, ◌*◌, ◌%◌, ◌^◌, ◌<◌, ◌≤◌, List, length, slice_index};
+ghost use Rattle.cx_map.specs.declared.TheConstants.{PAGE_SIZE};
 ghost use Rattle.cx_ram.specs.Agreement.{AgreeOn, SameWrites};
 ghost use Rattle.cx_ram.specs.LittleEndian.{loaded, low_bytes, stored, written};
 ghost use Rattle.cx_ram.specs.PhysicalMemory.{IsPage, page_of};
@@ -50,15 +51,15 @@ pub fn load_fits()
 
 /// A page that was written has the bytes that were written, and the others have theirs.
 pub fn page_after_write()
-    ensures same { (m : List ℕ) (page : ℕ) (bytes : List ℕ) → IsPage m page → length bytes ≡ 4096
-        → page_of (written m (4096 * page) bytes) page ≡ bytes }
-    ensures others { (m : List ℕ) (page : ℕ) (bytes : List ℕ) (other : ℕ) → IsPage m page → length bytes ≡ 4096 → other ≢ page
-        → page_of (written m (4096 * page) bytes) other ≡ page_of m other }
+    ensures same { (m : List ℕ) (page : ℕ) (bytes : List ℕ) → IsPage m page → length bytes ≡ PAGE_SIZE
+        → page_of (written m (page * PAGE_SIZE) bytes) page ≡ bytes }
+    ensures others { (m : List ℕ) (page : ℕ) (bytes : List ℕ) (other : ℕ) → IsPage m page → length bytes ≡ PAGE_SIZE → other ≢ page
+        → page_of (written m (page * PAGE_SIZE) bytes) other ≡ page_of m other }
 {}
 
 /// The bytes of a page are those of the memory from its first place on.
 pub fn page_is_its_bytes()
-    ensures { (m : List ℕ) (page k : ℕ) → k < 4096 → slice_index (page_of m page) k ≡ slice_index m (4096 * page + k) }
+    ensures { (m : List ℕ) (page k : ℕ) → k < PAGE_SIZE → slice_index (page_of m page) k ≡ slice_index m (page * PAGE_SIZE + k) }
 {}
 
 /// The same bytes written at one index of two memories of one length are the same writes, wherever the index is. So are no

@@ -1,4 +1,4 @@
-//! The physical memory of the machine: its RAM from place 0x8000_0000 on, as bytes.
+//! The physical memory of the machine: its RAM, as bytes.
 //!
 //! Contracts see one flat list of bytes. Loads and stores of 1 to 4 bytes are little-endian and stay inside a page;
 //! bytes of a device go in at any place; whole pages come and go for those who read and write recordings.
@@ -15,4 +15,5 @@ pub use laws::{
     memories_are_written_alike, page_after_write, page_is_its_bytes, store_changes_its_bytes,
     write_changes_its_bytes,
 };
-pub use ram::{NoMemory, RAM_START, Ram};
+pub use little_endian::{are_bytes, is_all_zero};
+pub use ram::{NoMemory, Ram};

@@ -1,13 +1,14 @@
 //! Numbers and bytes in a slice of bytes. The byte at the lowest index is the least significant one.
 
-ghost use Rattle.std.specs.Prelude.{◌≡◌, ◌↔◌, ℕ, ◌+◌, ◌*◌, ◌^◌, ◌<◌, ◌≤◌, length, slice_index, All, IsTrue};
+ghost use Rattle.std.specs.Prelude.{◌≡◌, ◌+◌, ◌*◌, ◌^◌, ◌<◌, ◌≤◌, length};
+ghost use Rattle.cx_map.specs.Bytes.{AreBytes};
 ghost use Rattle.cx_ram.specs.LittleEndian.{loaded, stored, written};
-ghost use Rattle.cx_ram.specs.PhysicalMemory.{IsAccessLength};
+ghost use Rattle.cx_ram.specs.PhysicalMemory.{IsAccessLength, is_zero};
 
 /// Tells that what a slice of bytes holds is below 256.
 #[inline(always)]
 pub fn are_bytes(memory: &[u8])
-    ensures { (i : ℕ) → slice_index memory.now i < 256 }
+    ensures { AreBytes memory.now }
 {
     let _ = memory;
 }
@@ -56,7 +57,7 @@ pub fn store(memory: &mut [u8], at: usize, len: u8, value: u32)
 
 /// Whether all bytes are zero.
 pub fn is_all_zero(bytes: &[u8]) -> bool
-    ensures { IsTrue result ↔ All (λ b. b ≡ 0) bytes.now }
+    ensures { result ≡ is_zero bytes.now }
 {
     bytes.iter().all(|b| *b == 0)
 }

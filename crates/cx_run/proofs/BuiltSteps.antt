@@ -3,7 +3,8 @@ use Rattle.std.proofs.Common.{◌≡◌, ℕ, zero, suc, ◌+◌, ◌<◌, ◌�
 use Rattle.std.proofs.lemmas.Bool.{cases_lt, cond_both}
 use Rattle.cx_log.specs.Recording.{Recording}
 use Rattle.cx_run.specs.Due.{due_at}
-use Rattle.cx_run.specs.Run.{Step, Stepped, Run, run_of, built_steps}
+use Rattle.cx_machine.specs.Step.{Step, Stepped}
+use Rattle.cx_run.specs.Run.{Run, run_of, built_steps}
 use Rattle.cx_run.proofs.Runs.{run_of-fewer, run_of-next}
 
 is_none : {X : Type 0} (o : Option X) → is_some o ≡ false → o ≡ None

@@ -2,7 +2,8 @@
 use Rattle.std.proofs.Common.{◌≡◌, ℕ, ◌<◌, ◌≤◌, List, [], ◌∷◌, ◌==◌, ◌&&◌, not, nat_lt, nat_le, filter, Bool, true, false, if◌then◌else◌, refl, sym, ◌∙◌, arith}
 use Rattle.std.proofs.lemmas.Bool.Decides.{nat_tests}
 use Rattle.cx_log.specs.Recording.{Event, Mark, Dma, Lines, Value, Recorded}
-use Rattle.cx_run.specs.Due.{Due, with_event, due_at}
+use Rattle.cx_machine.specs.Due.{Due}
+use Rattle.cx_run.specs.Due.{with_event, due_at}
 use Rattle.cx_run.specs.Window.{is_mark, events_between}
 
 abbrev pub is_between : ℕ → ℕ → ℕ → Event → Bool
@@ -18,8 +19,8 @@ left_out a b n step Mark due from to out = both (step == n)
     both : (t : Bool) → (if t then due else due) ≡ due
     both true = refl
     both false = refl
-left_out a b n step (Dma place bytes) due from to out = rw (other_step a b n step from to out) refl
-left_out a b n step (Lines mask) due from to out = rw (other_step a b n step from to out) refl
+left_out a b n step (Dma t) due from to out = rw (other_step a b n step from to out) refl
+left_out a b n step (Lines set) due from to out = rw (other_step a b n step from to out) refl
 left_out a b n step (Value v) due from to out = rw (other_step a b n step from to out) refl
 
 due_at-kept : (a b n : ℕ) (r : Recorded) (events kept : List Recorded) (t : Bool) → a ≤ n → n < b → is_between a b r.step r.event ≡ t → due_at kept n ≡ due_at events n
@@ -34,8 +35,8 @@ due_at-events_between a b n (r ∷ events) from to = due_at-kept a b n r events 
 -- The tests of a window inside a window.
 inner_test : (a b c d step : ℕ) (event : Event) → a ≤ c → d ≤ b → is_between c d step event ≡ true → is_between a b step event ≡ true
 inner_test a b c d step Mark from to inner = grind (arith, nat_tests)
-inner_test a b c d step (Dma place bytes) from to inner = grind (arith, nat_tests)
-inner_test a b c d step (Lines mask) from to inner = grind (arith, nat_tests)
+inner_test a b c d step (Dma t) from to inner = grind (arith, nat_tests)
+inner_test a b c d step (Lines set) from to inner = grind (arith, nat_tests)
 inner_test a b c d step (Value v) from to inner = grind (arith, nat_tests)
 
 filter_inner : (p q : Recorded → Bool) → ((r : Recorded) → q r ≡ true → p r ≡ true) → (events : List Recorded) → filter q (filter p events) ≡ filter q events

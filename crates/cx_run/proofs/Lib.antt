@@ -1,7 +1,6 @@
 pub mod Runs
 pub mod BuiltSteps
 pub mod PagesRead
-pub mod Received
 pub mod KeptPages
 pub mod KeptText
 pub mod Events
@@ -9,6 +8,8 @@ pub mod Dues
 pub mod StandingLines
 pub mod Windows
 pub mod WindowOrder
+pub mod LaterEvents
+pub mod Shorter
 pub mod Accepted
 pub mod WindowOfWindow
 pub mod Alone

@@ -4,11 +4,12 @@ use Rattle.std.specs.List.{list_any}
 use Rattle.std.proofs.lemmas.List.{drop-append-le, drop_all, take-append-drop}
 use Rattle.std.proofs.lemmas.List.Folds.{list_any_at, list_any-append}
 use Rattle.std.proofs.lemmas.Bool.{or_left, or_right, eq-eqb}
+use Rattle.cx_map.specs.declared.TheConstants.{PAGE_SIZE}
 use Rattle.cx_run.specs.Window.{any_in_page, is_read}
 
 -- A byte lies in its own page.
-pub any_in_page-at : (indices : List ℕ) (j d : ℕ) → j < length indices → any_in_page indices (get_or indices j d / 4096) ≡ true
-any_in_page-at indices j d below = list_any_at (λ i. i / 4096 == get_or indices j d / 4096) indices j d below (eq-eqb (get_or indices j d / 4096) (get_or indices j d / 4096) refl)
+pub any_in_page-at : (indices : List ℕ) (j d : ℕ) → j < length indices → any_in_page indices (get_or indices j d / PAGE_SIZE) ≡ true
+any_in_page-at indices j d below = list_any_at (λ i. i / PAGE_SIZE == get_or indices j d / PAGE_SIZE) indices j d below (eq-eqb (get_or indices j d / PAGE_SIZE) (get_or indices j d / PAGE_SIZE) refl)
 
 -- Before the first step of a window no page is read in it.
 pub is_read-none : {Rec : Type 0} (reads : Rec → List ℕ) (m page : ℕ) (records : List Rec) → length records ≤ m → is_read reads (drop m records) page ≡ false

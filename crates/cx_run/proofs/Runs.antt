@@ -3,8 +3,10 @@ use Rattle.std.proofs.Common.{◌≡◌, ℕ, zero, suc, ◌+◌, ◌≤◌, Lis
 use Rattle.std.proofs.lemmas.List.{length_push, take_at}
 use Rattle.std.proofs.lemmas.Bool.{cases_eq}
 use Rattle.cx_log.specs.Recording.{Recording}
-use Rattle.cx_run.specs.Due.{Due, due_at}
-use Rattle.cx_run.specs.Run.{Step, Stepped, Run, go_on, next_run, run_of}
+use Rattle.cx_machine.specs.Due.{Due}
+use Rattle.cx_run.specs.Due.{due_at}
+use Rattle.cx_machine.specs.Step.{Step, Stepped}
+use Rattle.cx_run.specs.Run.{Run, go_on, next_run, run_of}
 
 -- The step by which a run goes on to another.
 pub record GoesOn {Rec : Type 0} (step : Step Rec) (due : Due) (run next : Run Rec) : Type 0 where

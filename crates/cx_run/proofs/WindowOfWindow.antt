@@ -5,9 +5,9 @@ use Rattle.std.proofs.lemmas.Option.{same_Some}
 use Rattle.cx_ram.specs.PhysicalMemory.{page_of}
 use Rattle.cx_log.specs.Recording.{Recording}
 use Rattle.cx_log.specs.Order.{KeepsRules}
-use Rattle.cx_run.specs.Machine.{Machine}
-use Rattle.cx_run.specs.Run.{Step, Run, run_of}
-use Rattle.cx_run.specs.Frame.{ReadsItsRecord}
+use Rattle.cx_machine.specs.Machine.{MachineState}
+use Rattle.cx_machine.specs.Step.{Step, IsFramed}
+use Rattle.cx_run.specs.Run.{Run, run_of}
 use Rattle.cx_run.specs.Window.{is_read, kept_pages, events_between, window_from, IsWindow}
 use Rattle.cx_run.specs.Alone.{AgreeOnPages, RunsAlone}
 use Rattle.cx_run.proofs.Runs.{BeginsWith, run_of-begins, length-records}
@@ -17,7 +17,7 @@ use Rattle.cx_run.proofs.Events.{events_between-inner}
 use Rattle.cx_run.proofs.Alone.{window_runs_alone}
 
 -- The inner window's memory: the pages that are read in it are read in the outer one, so they are at hand there.
-inner_memory : {Rec : Type 0} (reads : Rec → List ℕ) (m n pages : ℕ) (p q : Machine) (records inner rest : List Rec) → m ≤ n → m ≤ length records
+inner_memory : {Rec : Type 0} (reads : Rec → List ℕ) (m n pages : ℕ) (p q : MachineState) (records inner rest : List Rec) → m ≤ n → m ≤ length records
     → AgreeOnPages (is_read reads (drop m (records ++ rest))) p q → inner ≡ drop m records
     → kept_pages (is_read reads (drop (n - m) inner)) q.memory pages ≡ kept_pages (is_read reads (drop n records)) p.memory pages
 inner_memory {Rec} reads m n pages p q records inner rest from within agree is =
@@ -37,12 +37,12 @@ inner_memory {Rec} reads m n pages p q records inner rest from within agree is =
     same_page : (k : ℕ) → k < pages → is_read reads (drop n records) k ≡ true → page_of q.memory k ≡ page_of p.memory k
     same_page k below some = page_of-agree p.memory q.memory k agree.size (λ i here. agree.bytes i (rw here (in_outer k some)))
 
-same_windows : {Rec : Type 0} (reads : Rec → List ℕ) (R W : Recording) (c d : ℕ) (before after there_before there_after : Run Rec) → W.pages ≡ R.pages → before.machine.state ≡ there_before.machine.state
+same_windows : {Rec : Type 0} (reads : Rec → List ℕ) (R W : Recording) (c d : ℕ) (before after there_before there_after : Run Rec) → W.version ≡ R.version → W.split ≡ R.split → W.pages ≡ R.pages → before.machine.state ≡ there_before.machine.state
     → kept_pages (is_read reads (drop (c - W.base) after.records)) before.machine.memory R.pages ≡ kept_pages (is_read reads (drop (c - R.base) there_after.records)) there_before.machine.memory R.pages
     → events_between c d W.events ≡ events_between c d R.events → window_from reads W c d before after ≡ window_from reads R c d there_before there_after
-same_windows reads R W c d before after there_before there_after pages state memory events = rw (pages, state, memory, events) refl
+same_windows reads R W c d before after there_before there_after version split pages state memory events = rw (version, split, pages, state, memory, events) refl
 
-pub window_of_window : {Rec : Type 0} (step : Step Rec) (reads : Rec → List ℕ) (R W V : Recording) (a b c d : ℕ) → ReadsItsRecord step reads → KeepsRules R
+pub window_of_window : {Rec : Type 0} (step : Step Rec) (reads : Rec → List ℕ) (R W V : Recording) (a b c d : ℕ) → IsFramed step reads → KeepsRules R
     → IsWindow step reads R a b W → IsWindow step reads W c d V → IsWindow step reads R c d V
 window_of_window {Rec} step reads R W V a b c d frame rules w v = record {
   from = omega (arith, from_base, from_a, inner, to_b, to_end);
@@ -52,7 +52,7 @@ window_of_window {Rec} step reads R W V a b c d frame rules w v = record {
   up_to_a = rw place_c at at_c.in_the_whole;
   after = at_d.there;
   up_to_b = rw place_d at at_d.in_the_whole;
-  is = v.is ∙ same_windows reads R W c d v.before v.after at_c.there at_d.there pages state memory events;
+  is = v.is ∙ same_windows reads R W c d v.before v.after at_c.there at_d.there (rw w.is refl) (rw w.is refl) pages state memory events;
 }
   where
     base : W.base ≡ a

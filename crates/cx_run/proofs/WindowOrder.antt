@@ -1,8 +1,10 @@
 -- The events of a window keep the rules of order.
 use Rattle.std.proofs.Common.{◌≡◌, ℕ, ◌^◌, ◌<◌, ◌≤◌, ◌⊎◌, List, [], ◌∷◌, ◌==◌, ◌&&◌, not, nat_le, nat_lt, Bool, true, false, refl, inl, inr, arith}
 use Rattle.std.proofs.lemmas.Bool.{cases_lt, cases_Bool, lt-ltb, le-ltb, le-leb, lt-leb, eq-eqb, ne_eqb}
+use Rattle.cx_csr.specs.declared.lines.Lines as lines
 use Rattle.cx_log.specs.Recording.{Event, Mark, Dma, Lines, Value, Recorded}
-use Rattle.cx_log.specs.Order.{next_mark, Behind, MarkRule, MayFollow, MayEnd, InOrder, behind_it, rank, mark_after, lines_after}
+use Rattle.cx_log.specs.Order.{next_mark, MarkRule, MayFollow, MayEnd, InOrder, behind_it, rank, mark_behind, lines_behind}
+use Rattle.cx_log.specs.declared.order.Behind.{Behind}
 use Rattle.cx_run.specs.Window.{is_mark, events_between}
 use Rattle.cx_run.proofs.Events.{is_between}
 use Rattle.cx_run.proofs.StandingLines.{lines_before, lines_before-none, order_rises}
@@ -16,37 +18,37 @@ order_ends pages behind (r ∷ events) end order =
     (rest.0, omega (arith, rest.1))
 
 -- The next mark is that of the last step that was passed.
-mark_stays : (mark before step : ℕ) (event : Event) → mark ≡ next_mark before → before ≤ step → MarkRule mark step event → mark_after mark event ≡ next_mark step
+pub mark_stays : (mark before step : ℕ) (event : Event) → mark ≡ next_mark before → before ≤ step → MarkRule mark step event → mark_behind mark event ≡ next_mark step
 mark_stays mark before step Mark is rises rule = omega arith
-mark_stays mark before step (Dma place bytes) is rises rule = omega arith
-mark_stays mark before step (Lines mask) is rises rule = omega arith
+mark_stays mark before step (Dma t) is rises rule = omega arith
+mark_stays mark before step (Lines set) is rises rule = omega arith
 mark_stays mark before step (Value v) is rises rule = omega arith
 
-not_past_mark : (mark step : ℕ) (event : Event) → MarkRule mark step event → step ≤ mark
+pub not_past_mark : (mark step : ℕ) (event : Event) → MarkRule mark step event → step ≤ mark
 not_past_mark mark step Mark rule = omega arith
-not_past_mark mark step (Dma place bytes) rule = omega arith
-not_past_mark mark step (Lines mask) rule = omega arith
+not_past_mark mark step (Dma t) rule = omega arith
+not_past_mark mark step (Lines set) rule = omega arith
 not_past_mark mark step (Value v) rule = omega arith
 
 -- What the window leaves out, and what it keeps.
-out_before : (a b step : ℕ) (event : Event) → step < a → is_between a b step event ≡ false
+pub out_before : (a b step : ℕ) (event : Event) → step < a → is_between a b step event ≡ false
 out_before a b step event less = rw (lt-leb a step less) refl
 
-out_behind : (a b step : ℕ) (event : Event) → b ≤ step → is_between a b step event ≡ false
+pub out_behind : (a b step : ℕ) (event : Event) → b ≤ step → is_between a b step event ≡ false
 out_behind a b step event most = rw (le-ltb step b most) (no_and (nat_le a step))
   where
     no_and : (t : Bool) → (t && false && not (is_mark event && step == a)) ≡ false
     no_and true = refl
     no_and false = refl
 
-out_mark : (a b step : ℕ) (event : Event) → is_mark event ≡ true → step ≡ a → is_between a b step event ≡ false
+pub out_mark : (a b step : ℕ) (event : Event) → is_mark event ≡ true → step ≡ a → is_between a b step event ≡ false
 out_mark a b step event mark here = rw (mark, eq-eqb step a here) (no_and (nat_le a step && nat_lt step b))
   where
     no_and : (t : Bool) → (t && false) ≡ false
     no_and true = refl
     no_and false = refl
 
-kept : (a b step : ℕ) (event : Event) → a ≤ step → step < b → (is_mark event ≡ true → a < step) → is_between a b step event ≡ true
+pub kept : (a b step : ℕ) (event : Event) → a ≤ step → step < b → (is_mark event ≡ true → a < step) → is_between a b step event ≡ true
 kept a b step event from to no_mark = rw (le-leb a step from, lt-ltb step b to) (by_kind (is_mark event) refl)
   where
     by_kind : (t : Bool) → is_mark event ≡ t → (true && true && not (t && step == a)) ≡ true
@@ -55,8 +57,8 @@ kept a b step event from to no_mark = rw (le-leb a step from, lt-ltb step b to) 
 
 mark_is_there : (mark step : ℕ) (event : Event) → MarkRule mark step event → is_mark event ≡ true → step ≡ mark
 mark_is_there mark step Mark rule is = rule
-mark_is_there mark step (Dma place bytes) rule is = absurd (cc)
-mark_is_there mark step (Lines mask) rule is = absurd (cc)
+mark_is_there mark step (Dma t) rule is = absurd (cc)
+mark_is_there mark step (Lines set) rule is = absurd (cc)
 mark_is_there mark step (Value v) rule is = absurd (cc)
 
 order_keeps : (pages a b : ℕ) (new : Behind) (r : Recorded) (events : List Recorded) → is_between a b r.step r.event ≡ true → MayFollow pages new r → InOrder pages (behind_it new r) (events_between a b events) b
@@ -68,7 +70,7 @@ order_skips : (pages a b : ℕ) (new : Behind) (r : Recorded) (events : List Rec
 order_skips pages a b new r events test rest = rw test rest
 
 -- Once the window's end is reached, all is left out.
-none_between : (pages a b : ℕ) (behind : Behind) (events : List Recorded) (end : ℕ) → InOrder pages behind events end → b ≤ behind.step → events_between a b events ≡ []
+pub none_between : (pages a b : ℕ) (behind : Behind) (events : List Recorded) (end : ℕ) → InOrder pages behind events end → b ≤ behind.step → events_between a b events ≡ []
 none_between pages a b behind [] end order past = refl
 none_between pages a b behind (r ∷ events) end order past =
     let rises : behind.step ≤ r.step = order_rises pages behind r order.0 in
@@ -99,8 +101,8 @@ inside pages a b behind (r ∷ events) end order from to least mark =
     ]
 
 -- What the window's own machine has behind it: nothing, at the window's first step.
-abbrev pub at_window : ℕ → ℕ → Behind
-at_window a lines = record { step = a; least = 0; mark = next_mark a; lines = lines }
+abbrev pub at_window : ℕ → lines.Lines → Behind
+at_window a standing = record { step = a; least = 0; mark = next_mark a; lines = standing }
 
 -- The first event that the window keeps.
 first_inside : (pages a b : ℕ) (behind : Behind) (r : Recorded) (events : List Recorded) (end : ℕ) → InOrder pages behind (r ∷ events) end → behind.step ≤ a → a ≤ r.step → r.step < b → b ≤ end → behind.mark ≡ next_mark behind.step
@@ -118,15 +120,15 @@ first_inside pages a b behind r events end order before from to least mark no_ma
 
     same_next_mark : (mark' passed start step : ℕ) (event : Event) → mark' ≡ next_mark passed → passed ≤ start → start ≤ step → MarkRule mark' step event → (is_mark event ≡ true → start < step) → next_mark start ≡ mark'
     same_next_mark mark' passed start step Mark is lower upper rule later = let above : start < step = later refl in omega arith
-    same_next_mark mark' passed start step (Dma place bytes) is lower upper rule later = omega arith
-    same_next_mark mark' passed start step (Lines mask) is lower upper rule later = omega arith
+    same_next_mark mark' passed start step (Dma t) is lower upper rule later = omega arith
+    same_next_mark mark' passed start step (Lines set) is lower upper rule later = omega arith
     same_next_mark mark' passed start step (Value v) is lower upper rule later = omega arith
 
-mark_sets_no_lines : (lines : ℕ) (event : Event) → is_mark event ≡ true → lines_after lines event ≡ lines
-mark_sets_no_lines lines Mark is = refl
-mark_sets_no_lines lines (Dma place bytes) is = refl
-mark_sets_no_lines lines (Lines mask) is = absurd (cc)
-mark_sets_no_lines lines (Value v) is = refl
+mark_sets_no_lines : (standing : lines.Lines) (event : Event) → is_mark event ≡ true → lines_behind standing event ≡ standing
+mark_sets_no_lines standing Mark is = refl
+mark_sets_no_lines standing (Dma t) is = refl
+mark_sets_no_lines standing (Lines set) is = absurd (cc)
+mark_sets_no_lines standing (Value v) is = refl
 
 -- An event at the window's first step or later, that isn't a mark at that step.
 stands_at : (pages a b : ℕ) (behind : Behind) (r : Recorded) (events : List Recorded) (end : ℕ) → InOrder pages behind (r ∷ events) end → behind.step ≤ a → a < b → b ≤ end → behind.mark ≡ next_mark behind.step
@@ -141,17 +143,17 @@ stands_at pages a b behind r events end order before some least mark from no_mar
 
 -- A mark at the window's first step.
 passes_mark : (pages a b : ℕ) (behind : Behind) (r : Recorded) (events : List Recorded) → is_mark r.event ≡ true → r.step ≡ a
-    → InOrder pages (at_window a (lines_before a events (lines_after behind.lines r.event))) (events_between a b events) b
+    → InOrder pages (at_window a (lines_before a events (lines_behind behind.lines r.event))) (events_between a b events) b
     → InOrder pages (at_window a (lines_before a (r ∷ events) behind.lines)) (events_between a b (r ∷ events)) b
 passes_mark pages a b behind r events is here rest =
     let same : InOrder pages (at_window a (lines_before a events behind.lines)) (events_between a b events) b = rw (mark_sets_no_lines behind.lines r.event is) at rest in
     rw (le-ltb r.step a (omega arith)) (order_skips pages a b (at_window a (lines_before a events behind.lines)) r events (out_mark a b r.step r.event is here) same)
 
 passes_earlier : (pages a b : ℕ) (behind : Behind) (r : Recorded) (events : List Recorded) → r.step < a
-    → InOrder pages (at_window a (lines_before a events (lines_after behind.lines r.event))) (events_between a b events) b
+    → InOrder pages (at_window a (lines_before a events (lines_behind behind.lines r.event))) (events_between a b events) b
     → InOrder pages (at_window a (lines_before a (r ∷ events) behind.lines)) (events_between a b (r ∷ events)) b
 passes_earlier pages a b behind r events less rest =
-    rw (lt-ltb r.step a less) (order_skips pages a b (at_window a (lines_before a events (lines_after behind.lines r.event))) r events (out_before a b r.step r.event less) rest)
+    rw (lt-ltb r.step a less) (order_skips pages a b (at_window a (lines_before a events (lines_behind behind.lines r.event))) r events (out_before a b r.step r.event less) rest)
 
 -- The events of the steps from a on and below b, without a mark at a, are in order behind the window's first machine,
 -- with the lines that stand before step a.
@@ -160,7 +162,7 @@ pub InOrder-events_between : (pages a b : ℕ) (behind : Behind) (events : List 
 InOrder-events_between pages a b behind [] end order before some least mark = record { small = omega (arith, order.small); above = some; marks = omega (arith, order.marks) }
 InOrder-events_between pages a b behind (r ∷ events) end order before some least mark =
     let rises : behind.step ≤ r.step = order_rises pages behind r order.0 in
-    let rest : r.step ≤ a → InOrder pages (at_window a (lines_before a events (lines_after behind.lines r.event))) (events_between a b events) b =
+    let rest : r.step ≤ a → InOrder pages (at_window a (lines_before a events (lines_behind behind.lines r.event))) (events_between a b events) b =
     λ passed. InOrder-events_between pages a b (behind_it behind r) events end order.1 passed some least (mark_stays behind.mark behind.step r.step r.event mark rises order.0.marks) in
     elim (cases_lt r.step a) [
       | inl less ↦ passes_earlier pages a b behind r events less (rest (omega arith))

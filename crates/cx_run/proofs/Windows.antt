@@ -2,7 +2,8 @@
 use Rattle.std.proofs.Common.{◌≡◌, ℕ, ◌-◌, ◌<◌, ◌≤◌, List, IsSome, refl, sym, ap, ◌∙◌, arith}
 use Rattle.std.proofs.lemmas.Option.{same_Some}
 use Rattle.cx_log.specs.Recording.{Recording}
-use Rattle.cx_run.specs.Run.{Step, run_of}
+use Rattle.cx_machine.specs.Step.{Step}
+use Rattle.cx_run.specs.Run.{run_of}
 use Rattle.cx_run.specs.Window.{window_from, IsWindow}
 use Rattle.cx_run.proofs.Runs.{some_run, BeginsWith, run_of-begins}
 

@@ -1,6 +1,6 @@
-pub mod Machine
 pub mod Due
+pub mod Events
 pub mod Run
 pub mod Window
-pub mod Frame
 pub mod Alone
+pub mod FirstBad

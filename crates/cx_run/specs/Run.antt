@@ -1,22 +1,15 @@
--- The run of a recording, over any step function. A step takes a machine and what is due to it, and gives the machine
--- after it with a record of the step, or nothing where it can't be carried out so.
-use Rattle.std.specs.Prelude.{◌≡◌, ℕ, zero, suc, ◌+◌, ◌-◌, ◌≤◌, List, [], ◌∷◌, ◌++◌, Option, None, Some, IsSome, is_some, if◌then◌else◌}
+-- The run of a recording, over any step function.
+use Rattle.std.specs.Prelude.{◌≡◌, ℕ, zero, suc, ◌+◌, ◌-◌, List, [], ◌∷◌, ◌++◌, Option, None, Some, IsSome, is_some, if◌then◌else◌}
 use Rattle.cx_log.specs.Recording.{Recording}
 use Rattle.cx_log.specs.Order.{KeepsRules}
-use Rattle.cx_run.specs.Machine.{Machine}
-use Rattle.cx_run.specs.Due.{Due, due_at}
-
--- the machine after a step, and the step's record
-pub record Stepped (Rec : Type 0) : Type 0 where
-  pub machine : Machine
-  pub rec : Rec
-
-abbrev pub Step : Type 0 → Type 0
-Step Rec = Machine → Due → Option (Stepped Rec)
+use Rattle.cx_machine.specs.Due.{Due}
+use Rattle.cx_machine.specs.Machine.{MachineState}
+use Rattle.cx_machine.specs.Step.{Step, Stepped}
+use Rattle.cx_run.specs.Due.{due_at}
 
 -- where a run stands: the machine before the next step, and the records of the steps so far
 pub record Run (Rec : Type 0) : Type 0 where
-  pub machine : Machine
+  pub machine : MachineState
   pub records : List Rec
 
 abbrev pub go_on : {Rec : Type 0} → Run Rec → Option (Stepped Rec) → Option (Run Rec)
@@ -36,13 +29,6 @@ run_of step R (suc n) = next_run step (due_at R.events (R.base + n)) (run_of ste
 abbrev pub built_steps : {Rec : Type 0} → Step Rec → Recording → ℕ → ℕ
 built_steps step R zero = zero
 built_steps step R (suc n) = if is_some (run_of step R (suc n)) then suc n else built_steps step R n
-
--- the machine before step n
-pub record IsMachineAt {Rec : Type 0} (step : Step Rec) (R : Recording) (n : ℕ) (machine : Machine) : Type 0 where
-  pub from : R.base ≤ n
-  pub run : Run Rec
-  pub up_to : run_of step R (n - R.base) ≡ Some run
-  pub is : machine ≡ run.machine
 
 -- A recording that is accepted: it keeps the rules of the format, and each of its steps is carried out.
 pub record Accepts {Rec : Type 0} (step : Step Rec) (R : Recording) : Type 0 where

@@ -10,6 +10,6 @@ mod laws;
 pub use laws::{
     kept_pages_are_those_of_the_memory, kept_pages_are_written_one_by_one,
     pages_are_marked_step_by_step, run_stops_at_its_first_gap, runs_begin_with_shorter_runs,
-    transfers_write_the_same_bytes, window_is_accepted, window_is_there_once, window_of_window,
-    window_runs_alone,
+    runs_know_no_later_event, window_is_accepted, window_is_there_once, window_of_window,
+    window_runs_alone, windows_are_shorter,
 };

@@ -1,57 +1,101 @@
 -- Pages of a recording, read one after another into a machine's memory.
-use Rattle.std.proofs.Common.{◌≡◌, ℕ, zero, suc, ◌+◌, ◌-◌, ◌*◌, ◌<◌, List, Option, None, Some, Result, Ok, Err, arith, refl, ap, ◌∙◌}
-use Rattle.cx_codec.specs.Place.{Place, FailsAt, read_on}
-use Rattle.cx_log.specs.Reading.{Page, next_page_at, page_at, pages_at}
+use Rattle.std.proofs.Common.{◌≡◌, ℕ, zero, suc, ◌+◌, ◌-◌, ◌*◌, List, Option, None, Some, Result, Ok, Err, arith, refl, ◌∙◌}
+use Rattle.cx_map.specs.declared.TheConstants.{PAGE_SIZE}
+use Rattle.cx_codec.specs.Place.{Place, Reader, read_on, done}
+use Rattle.cx_codec.specs.Reads.{Begins, Standing, Follows, Reads, place_in}
+use Rattle.cx_codec.proofs.Composing.{fails}
+use Rattle.cx_codec.proofs.Following.{begins_on, follows_on, end_stays}
 use Rattle.cx_ram.specs.LittleEndian.{written}
+use Rattle.cx_log.specs.declared.fault.LogFault.{LogFault}
+use Rattle.cx_log.specs.Engine.{begin_behind, option_page_with, turned_page_at}
+use Rattle.cx_log.specs.Fault.{log_met}
+use Rattle.cx_log.specs.Reading.{Page, page_at}
+use Rattle.cx_top.specs.Opening.{turned_pages_at}
+
+-- how many pages are left, the least number that the next may have, and the memory so far
+pub record Stage : Type 0 where
+  pub left : ℕ
+  pub least : ℕ
+  pub memory : List ℕ
+
+abbrev pub stage : ℕ → ℕ → List ℕ → Stage
+stage left least memory = record { left = left; least = least; memory = memory }
+
+abbrev pub pages_from : ℕ → Stage → Reader (List ℕ)
+pages_from pages s = turned_pages_at pages s.left s.least s.memory
+
+-- what follows the next page, or none, where so many are left then
+abbrev behind_page : ℕ → ℕ → List ℕ → Option Page → Reader (List ℕ)
+behind_page pages left memory None = done memory
+behind_page pages left memory (Some page) =
+    turned_pages_at pages left (page.number + 1) (written memory (page.number * PAGE_SIZE) page.bytes)
+
+among : (pages left n : ℕ) (memory : List ℕ) (x : Page) (q : Place)
+    → read_on (begin_behind n q)
+    (λ begun. turned_pages_at pages left (x.number + 1) (written memory (x.number * PAGE_SIZE) x.bytes))
+    ≡ read_on (read_on (begin_behind n q) (λ begun. done (Some x))) (behind_page pages left memory)
+among pages left zero memory x q = refl
+among pages left (suc n) memory x q = refl
+
+after_page : (pages left : ℕ) (memory : List ℕ) (read : Result (Page × Place) ℕ)
+    → read_on read (λ x q. read_on (begin_behind left q) (λ begun. turned_pages_at pages left (x.number + 1)
+    (written memory (x.number * PAGE_SIZE) x.bytes)))
+    ≡ read_on (read_on read (λ x q. read_on (begin_behind left q) (λ begun. done (Some x))))
+    (behind_page pages left memory)
+after_page pages left memory (Ok x) = among pages left left memory x.0 x.1
+after_page pages left memory (Err o) = refl
 
 -- the next page, and then the others
-pages_step : (pages left least : ℕ) (memory : List ℕ) (here : Place) → 0 < left
-    → pages_at pages left least memory here ≡ read_on (page_at pages least here) (λ page. pages_at pages (left - 1) (page.number + 1) (written memory (page.number * 4096) page.bytes))
-pages_step pages zero least memory here some = absurd (omega arith)
-pages_step pages (suc left) least memory here some = let e : suc left - 1 ≡ left = omega arith in rw e refl
+pages_step : (pages left least : ℕ) (memory : List ℕ) (p : Place)
+    → turned_pages_at pages left least memory p
+    ≡ read_on (turned_page_at pages left least p) (behind_page pages (left - 1) memory)
+unfolding turned_page_at
+pages_step pages zero least memory p = refl
+pages_step pages (suc left) least memory p =
+    let less : suc left - 1 ≡ left = omega arith in
+    rw less (after_page pages left memory (page_at pages least p))
 
-some_page : (read : Result (Page × Place) ℕ) (page : Page) (after : Place) → read_on read (λ (p : Page). λ (here : Place). Ok (Some p, here)) ≡ Ok (Some page, after) → read ≡ Ok (page, after)
-some_page (Ok x) page after e =
-    let both : ◌≡◌ {A = Option Page × Place} (Some x.0, x.1) (Some page, after) = cc in
-    let value : Some x.0 ≡ Some page = ap (λ (y : Option Page × Place). y.0) both in
-    let page_is : x.0 ≡ page = cc in
-    let place_is : x.1 ≡ after = ap (λ (y : Option Page × Place). y.1) both in
-    rw (← page_is, ← place_is) refl
-some_page (Err o) page after e = cc
+-- In every input that begins with what was given, the pages of the first stage are those of the present one.
+pub record FilledTo (pages : ℕ) (first now : Stage) (old new : Standing) : Type 0 where
+  pub follows : Follows old new
+  pub same : (input : List ℕ) → Begins new.given input → pages_from pages first (place_in old input)
+      ≡ pages_from pages now (place_in new input)
 
--- The next page is one that was to be read.
-next_is_page : (pages left least : ℕ) (here : Place) (page : Page) (after : Place) → 0 < left → next_page_at pages left least here ≡ Ok (Some page, after) → page_at pages least here ≡ Ok (page, after)
-unfolding next_page_at
-next_is_page pages zero least here page after some e = absurd (omega arith)
-next_is_page pages (suc left) least here page after some e = some_page (page_at pages least here) page after e
+-- another page was read, and written to memory
+pub filled_on : {pages left least left' least' number : ℕ} {memory memory' bytes : List ℕ} {first : Stage}
+    {old mid new : Standing}
+    → FilledTo pages first (stage left least memory) old mid
+    → left' + 1 ≡ left → least' ≡ number + 1 → memory' ≡ written memory (number * PAGE_SIZE) bytes
+    → Reads log_met (option_page_with bytes) (turned_page_at pages left least) mid new (Ok (Some number))
+    → FilledTo pages first (stage left' least' memory') old new
+filled_on {pages = pages} {left = left} {least = least} {left' = left'} {memory = memory} {mid = mid}
+    so_far fewer next put page = record {
+      follows = follows_on so_far.follows page.follows;
+      same = λ input begins.
+          let less : left - 1 ≡ left' = omega (arith, fewer) in
+          so_far.same input (begins_on page.follows.grows begins)
+          ∙ pages_step pages left least memory (place_in mid input)
+          ∙ rw (page.reads input begins, less, next, put) refl;
+    }
 
--- It was read, and written to memory.
-pub filled : (pages left left' least least' number : ℕ) (memory memory' bytes : List ℕ) (here after : Place) → left' + 1 ≡ left → least' ≡ number + 1
-    → next_page_at pages left least here ≡ Ok (Some (record { number = number; bytes = bytes }), after) → memory' ≡ written memory (4096 * number) bytes
-    → pages_at pages left least memory here ≡ pages_at pages left' least' memory' after
-filled pages left left' least least' number memory memory' bytes here after fewer next read put =
-    let place : 4096 * number ≡ number * 4096 = omega arith in
-    let page = next_is_page pages left least here (record { number = number; bytes = bytes }) after (omega (arith, fewer)) read in
-    let there : memory' ≡ written memory (number * 4096) bytes = put ∙ ap (λ i. written memory i bytes) place in
-    let less : left - 1 ≡ left' = omega (arith, fewer) in
-    pages_step pages left least memory here (omega (arith, fewer)) ∙ rw (page, less, next, there) refl
+-- what the pages from the present stage on come to
+filled_then : {X : Type 0} {view : X → List ℕ} {pages : ℕ} {first now : Stage} {old mid new : Standing}
+    {result : Result X LogFault}
+    → FilledTo pages first now old mid → Reads log_met view (pages_from pages now) mid new result
+    → Reads log_met view (pages_from pages first) old new result
+filled_then so_far then = record {
+  follows = follows_on so_far.follows then.follows;
+  reads = λ input begins.
+      let earlier = begins_on then.follows.grows begins in
+      rw (so_far.same input earlier, end_stays so_far.follows input earlier) (then.reads input begins);
+}
 
-some_bad : (read : Result (Page × Place) ℕ) (o : ℕ) → read_on read (λ (p : Page). λ (here : Place). Ok (Some p, here)) ≡ Err o → read ≡ Err o
-some_bad (Ok x) o e = cc
-some_bad (Err p) o e = cc
-
--- It is bad.
-pub next_bad : (pages left least : ℕ) (memory : List ℕ) (here : Place) (fault : Option ℕ) → FailsAt fault (next_page_at pages left least here) → FailsAt fault (pages_at pages left least memory here)
-unfolding next_page_at
-next_bad pages left least memory here None fails = tt
-next_bad pages zero least memory here (Some o) fails = cc
-next_bad pages (suc left) least memory here (Some o) fails = pages_step pages (suc left) least memory here (omega arith) ∙ rw (some_bad (page_at pages least here) o fails) refl
-
--- None is left.
-pub next_none : (pages left least : ℕ) (memory : List ℕ) (here after : Place) → left ≡ 0 → next_page_at pages left least here ≡ Ok (None, after) → pages_at pages left least memory here ≡ Ok (memory, after)
-unfolding next_page_at
-next_none pages zero least memory here after none e =
-    let both : ◌≡◌ {A = Option Page × Place} (None, here) (None, after) = cc in
-    let same : here ≡ after = ap (λ (y : Option Page × Place). y.1) both in
-    rw same refl
-next_none pages (suc left) least memory here after none e = absurd (omega (arith, none))
+-- The next page is bad.
+pub filled_bad : {X : Type 0} {view : X → List ℕ} {pages left least : ℕ} {memory bytes : List ℕ} {first : Stage}
+    {old mid new : Standing} {e : LogFault}
+    → FilledTo pages first (stage left least memory) old mid
+    → Reads log_met (option_page_with bytes) (turned_page_at pages left least) mid new (Err e)
+    → Reads log_met view (pages_from pages first) old new (Err e)
+filled_bad {pages = pages} {left = left} {least = least} {memory = memory} so_far page =
+    filled_then so_far (fails (λ start. behind_page pages (left - 1) memory)
+    (pages_step pages left least memory) refl page)

@@ -1,2 +1,5 @@
-pub mod Judging
+pub mod Composed
 pub mod Filling
+pub mod Refusals
+pub mod Judging
+pub mod Answering

@@ -1,5 +1,5 @@
-pub mod Judged
-pub mod Ending
+pub mod Status
 pub mod Faults
+pub mod Opening
 pub mod Window
 pub mod Call

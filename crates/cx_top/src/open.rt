@@ -1,37 +1,37 @@
 //! What stands before the records of a recording.
 
-ghost use Rattle.std.specs.Prelude.{◌≡◌, ◌*◌, ◌^◌, ◌≤◌, ◌<◌, false, length, replicate, IfOk, OnOk, IsSome, IsTrue, Ok, MatchResult, unwrap_or, []};
+ghost use Rattle.std.specs.Prelude.{◌≡◌, ◌^◌, ◌≤◌, [], length, replicate, true, IfOk, OnOk, IsSome, IsTrue};
 ghost use Rattle.cx_io.specs.Cause.{HasCause};
-ghost use Rattle.cx_codec.specs.Place.{Gives, FailsAt, seen};
-ghost use Rattle.cx_log.specs.Fault.{log_offset};
-ghost use Rattle.cx_log.specs.Memory.{IsMemory};
+ghost use Rattle.cx_codec.specs.Reads.{Opens, Reads, always, over};
+ghost use Rattle.cx_log.specs.Fault.{log_met};
 ghost use Rattle.cx_log.specs.Order.{IsHeader};
-ghost use Rattle.cx_log.specs.Reading.{pages_at};
-ghost use Rattle.cx_top.specs.Judged.{magic_at, opened_at, start_of};
+ghost use Rattle.cx_log.specs.Reading.{magic_at};
+ghost use Rattle.cx_machine.specs.Machine.{IsMemory};
+ghost use Rattle.cx_map.specs.Map.{size_of_pages};
+ghost use Rattle.cx_top.specs.Opening.{IsBegun, begun_at, turned_pages_at};
 
 use cx_codec::Bytes;
 use cx_hart::Machine;
 use cx_io::{NoMemory, Source};
-use cx_log::{Header, LogFault, LogReader, PAGE};
+use cx_log::{Header, LogFault, LogReader};
+use cx_map::PAGE_SIZE;
 use std::alloc::Global;
 
 /// A recording that was read up to its records.
 #[derive(Drop)]
 pub struct Opening {
-    /// The reader, behind the pages.
+    /// The reader, before the first record.
     pub reader: LogReader,
     /// The machine before the first step.
     pub machine: Machine,
 }
 
 // The four bytes of the magic.
-#[tactic(auto, unfolding(crate::specs::Judged::magic_at))]
 fn read_magic<S: Source>(bytes: &mut Bytes, source: &mut S) -> Result<(), LogFault>
     requires { IsTrue bytes.old.live }
-    ensures told { IsSome (S.left source.old) → IsSome (S.left source.new) }
-    ensures field { IsSome (S.left source.old) → Gives log_offset (λ u. tt)
-        (magic_at (seen bytes.old (S.left source.old))) (seen bytes.new (S.left source.new)) result }
-    ensures limit { bytes.new.limit ≡ bytes.old.limit }
+    ensures reads { IsSome (S.left source.old) → Reads log_met (always tt) magic_at
+        (over bytes.old (S.left source.old) (S.given source.old))
+        (over bytes.new (S.left source.new) (S.given source.new)) result }
     ensures live { OnOk result (IsTrue bytes.new.live) }
     ensures cause { HasCause LogFault.ReadFault (S.faults source.old) (S.faults source.new) result }
 {
@@ -48,11 +48,10 @@ fn read_magic<S: Source>(bytes: &mut Bytes, source: &mut S) -> Result<(), LogFau
 fn blank_machine(alloc: Global, header: &Header) -> Result<Machine, NoMemory>
     requires { IsHeader header.now }
     ensures state { IfOk result (λ m. m.state ≡ header.now.start) }
-    ensures memory { IfOk result (λ m. m.memory ≡ replicate (header.now.pages * 4096) 0) }
-    ensures size { IfOk result (λ m. length m.memory ≡ header.now.pages * 4096) }
-    ensures split { IfOk result (λ m. m.split ≡ false) }
+    ensures memory { IfOk result (λ m. m.memory ≡ replicate (size_of_pages header.now.pages) 0) }
+    ensures split { IfOk result (λ m. m.split ≡ header.now.split) }
 {
-    match Machine::new(alloc, header.pages, header.start) {
+    match Machine::with_split(alloc, header.pages, header.start, header.split) {
         Ok(machine) => Ok(machine),
         Err(_) => Err(NoMemory),
     }
@@ -76,22 +75,22 @@ fn fill<S: Source>(
     source: &mut S,
 ) -> Result<(), LogFault>
     requires live { IsTrue reader.old.input.live }
-    requires rules { IsHeader reader.old.header }
-    requires size { length machine.old.memory ≡ reader.old.header.pages * 4096 }
-    ensures told { IsSome (S.left source.old) → IsSome (S.left source.new) }
-    ensures pages { IsSome (S.left source.old) → Gives log_offset (λ _. machine.new.memory)
-        (pages_at reader.old.header.pages reader.old.left reader.old.least machine.old.memory (seen reader.old.input (S.left source.old)))
-        (seen reader.new.input (S.left source.new)) result }
-    ensures state { machine.new.state ≡ machine.old.state }
-    ensures size { length machine.new.memory ≡ length machine.old.memory }
-    ensures split { machine.new.split ≡ machine.old.split }
+    requires size { length machine.old.memory ≡ size_of_pages reader.old.header.pages }
+    ensures reads { IsSome (S.left source.old) → Reads log_met (always machine.new.memory)
+        (turned_pages_at reader.old.header.pages reader.old.left reader.old.least machine.old.memory)
+        (over reader.old.input (S.left source.old) (S.given source.old))
+        (over reader.new.input (S.left source.new) (S.given source.new)) result }
     ensures left { OnOk result (reader.new.left ≡ 0) }
-    ensures header { reader.new.header ≡ reader.old.header }
-    ensures limit { reader.new.input.limit ≡ reader.old.input.limit }
     ensures live { OnOk result (IsTrue reader.new.input.live) }
+    ensures header { reader.new.header ≡ reader.old.header }
+    ensures behind { reader.new.behind ≡ reader.old.behind }
+    ensures ended { reader.new.ended ≡ reader.old.ended }
+    ensures state { machine.new.state ≡ machine.old.state }
+    ensures split { machine.new.split ≡ machine.old.split }
+    ensures size { length machine.new.memory ≡ length machine.old.memory }
     ensures cause { HasCause LogFault.ReadFault (S.faults source.old) (S.faults source.new) result }
 {
-    let mut page = [0u8; PAGE];
+    let mut page = [0u8; PAGE_SIZE];
     while let Some(number) = reader.next_page(&mut page, source)? {
         reserve(machine)?;
         machine.fill(number, &page);
@@ -101,26 +100,24 @@ fn fill<S: Source>(
 
 // The RAM of so many pages is memory: its type says that its bytes are bytes.
 fn is_memory(pages: u32, machine: &Machine)
-    requires { length machine.now.memory ≡ pages * 4096 }
+    requires { length machine.now.memory ≡ size_of_pages pages }
     ensures { IsMemory pages machine.now.memory }
 {
     let _ = machine.ram().pages();
 }
 
-/// Reads the magic, the header and the pages.
-#[tactic(auto, unfolding(crate::specs::Judged::opened_at))]
+/// Reads the magic, the header and the pages. `Format` comes exactly where a field of these is bad: it isn't whole,
+/// breaks its rule, or is too great. `ReadFault` comes only where the source's count of faults rose, and `NoMemory`
+/// where memory for the reader or for the machine's RAM is refused.
 pub(crate) fn open<S: Source>(alloc: Global, source: &mut S) -> Result<Opening, LogFault>
-    ensures told { IsSome (S.left source.old) → IsSome (S.left source.new) }
-    ensures opened { IsSome (S.left source.old) → MatchResult result
-        (λ o. opened_at (start_of (unwrap_or (S.left source.old) []))
-        ≡ Ok (record { header = o.reader.header; memory = o.machine.memory }, seen o.reader.input (S.left source.new)))
-        (λ e. FailsAt (log_offset e) (opened_at (start_of (unwrap_or (S.left source.old) [])))) }
-    ensures rules { IfOk result (λ o. IsHeader o.reader.header) }
+    ensures opens { IsSome (S.left source.old) → Opens log_met
+        (λ o. record { header = o.reader.header; memory = o.machine.memory }) (λ o. o.reader.input) begun_at
+        (over (record { ready = []; at = 0; limit = 2 ^ 60; live = true }) (S.left source.old) (S.given source.old))
+        (S.left source.new) (S.given source.new) result }
+    ensures begun { IfOk result (λ o. IsBegun o.reader) }
     ensures state { IfOk result (λ o. o.machine.state ≡ o.reader.header.start) }
     ensures memory { IfOk result (λ o. IsMemory o.reader.header.pages o.machine.memory) }
-    ensures split { IfOk result (λ o. o.machine.split ≡ false) }
-    ensures behind { IfOk result (λ o. (o.reader.left ≡ 0) × (o.reader.input.limit ≤ 2 ^ 60)) }
-    ensures live { IfOk result (λ o. IsTrue o.reader.input.live) }
+    ensures split { IfOk result (λ o. o.machine.split ≡ o.reader.header.split) }
     ensures cause { HasCause LogFault.ReadFault (S.faults source.old) (S.faults source.new) result }
 {
     let mut bytes = Bytes::new(alloc)?;

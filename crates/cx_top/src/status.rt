@@ -4,7 +4,7 @@ ghost use Rattle.std.specs.Prelude.{◌≡◌, ◌≤◌, ◌++◌, length};
 ghost use Rattle.std.specs.Fmt.{decimal};
 ghost use Rattle.cx_top.specs.Faults.{status_of_cut, status_of_log, status_of_out};
 ghost use Rattle.cx_top.specs.declared.status.Status.TheVariants.{NoMemory as no_memory};
-ghost use Rattle.cx_top.specs.Ending.{number_of, line_of};
+ghost use Rattle.cx_top.specs.Status.{status_line, status_number};
 
 use cx_codec::OutFault;
 use cx_io::NoMemory;
@@ -40,7 +40,7 @@ pub enum Status {
 impl Status {
     /// The exit status of the program.
     pub fn number(&self) -> u8
-        ensures { result ≡ number_of self.now }
+        ensures { result ≡ status_number self.now }
     {
         match self {
             Status::Done => 0,
@@ -58,7 +58,7 @@ impl Status {
 
     /// The line that the program prints on standard error, without its newline.
     pub fn line(&self) -> Text
-        ensures { result ≡ line_of self.now }
+        ensures { result ≡ status_line self.now }
     {
         match self {
             Status::Done => text(b"done"),
@@ -111,7 +111,7 @@ impl From<CutFault> for Status {
 
     fn from(fault: CutFault) -> Self {
         match fault {
-            CutFault::NeedsValue(step) => Status::NotBuilt(step),
+            CutFault::Broken(step) => Status::Broken(step),
             CutFault::NoMemory => Status::NoMemory,
         }
     }

@@ -1,12 +1,6 @@
-//! Whole calls over memory. What is expected was worked out by hand, from the ISA and from the layout of a recording.
+//! Calls over sources and sinks that fail or give little at once, and the lines of all answers. What a command answers
+//! and writes is tested on the built program, in the folder tests/ at the top.
 
-mod calls;
-mod inputs;
-mod instructions;
-mod interrupts;
-mod memory;
-mod recordings;
-mod translated;
-mod traps;
-mod two_steps;
-mod values;
+mod recording;
+mod status;
+mod streams;

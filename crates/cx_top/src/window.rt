@@ -1,39 +1,48 @@
 //! The command `window`.
 
-ghost use Rattle.std.specs.Prelude.{◌≡◌, ◌^◌, ◌≤◌, false, IfOk, IfErr, IsSome, IsTrue, Ok, unwrap_or, []};
+ghost use Rattle.std.specs.Prelude.{◌≡◌, List, ℕ, IfOk, IfErr, IsSome, Ok};
 ghost use Rattle.cx_io.specs.Cause.{HasCause};
-ghost use Rattle.cx_codec.specs.Place.{seen};
-ghost use Rattle.cx_log.specs.Memory.{IsMemory};
-ghost use Rattle.cx_log.specs.Order.{IsHeader};
-ghost use Rattle.cx_top.specs.Judged.{begun, judged};
-ghost use Rattle.cx_top.specs.Window.{IsReadRefusal, ReadsSlice};
-ghost use Rattle.cx_window.specs.Slice.{IsWhole};
+ghost use Rattle.cx_codec.specs.Reads.{Begins, over, place_in};
+ghost use Rattle.cx_log.specs.Item.{is_end};
+ghost use Rattle.cx_log.specs.Reading.{start_of};
+ghost use Rattle.cx_machine.specs.Machine.{IsMemory};
+ghost use Rattle.cx_map.specs.Bytes.{AreBytes};
+ghost use Rattle.cx_top.specs.Call.{CausedBy, IsBeforeWriting, IsWindowStatus, MayBeWhole, input_behind};
+ghost use Rattle.cx_top.specs.Opening.{IsBegun, begun_at};
+ghost use Rattle.cx_top.specs.Window.{AnswersWindow, IsReadRefusal, LeavesWindow, ReadsSlice};
 
 use crate::open::{Opening, open};
 use crate::status::Status;
-use cx_io::Source;
+use cx_io::{Sink, Source};
+use cx_log::What;
 use cx_window::{Slice, Span, cut};
 use std::alloc::Global;
+
+// Whether a record is End.
+fn is_end(what: &What) -> bool
+    ensures { result ≡ is_end what.now }
+{
+    matches!(what, What::End)
+}
 
 // Reads the records of an opened recording, runs it, and cuts the window off.
 fn cut_opened<S: Source>(
     alloc: Global,
     opening: Opening,
-    from: u64,
-    to: u64,
+    span: Span,
     source: &mut S,
 ) -> Result<Slice, Status>
-    requires rules { IsHeader opening.reader.header }
+    requires begun { IsBegun opening.reader }
     requires state { opening.machine.state ≡ opening.reader.header.start }
     requires memory { IsMemory opening.reader.header.pages opening.machine.memory }
-    requires split { opening.machine.split ≡ false }
-    requires pages { opening.reader.left ≡ 0 }
-    requires limit { opening.reader.input.limit ≤ 2 ^ 60 }
-    requires live { IsTrue opening.reader.input.live }
-    ensures told { IsSome (S.left source.old) → IsSome (S.left source.new) }
-    ensures judged { IsSome (S.left source.old) → ReadsSlice from to
-        (begun (Ok (record { header = opening.reader.header; memory = opening.machine.memory }, seen opening.reader.input (S.left source.old)))) result }
-    ensures whole { IfOk result IsWhole }
+    requires split { opening.machine.split ≡ opening.reader.header.split }
+    ensures reads { IsSome (S.left source.old) → (input bytes : List ℕ) → Begins (S.given source.new) input → AreBytes bytes
+        → begun_at (start_of bytes) ≡ Ok (
+          record { header = opening.reader.header; memory = opening.machine.memory },
+          place_in (over opening.reader.input (S.left source.old) (S.given source.old)) input,
+        )
+        → ReadsSlice span.from span.to bytes (MayBeWhole (S.left source.new) (S.given source.new) input) (input ≡ S.given source.new) result }
+    ensures grows { IsSome (S.left source.old) → Begins (S.given source.old) (S.given source.new) }
     ensures kind { IfErr result IsReadRefusal }
     ensures cause { HasCause Status.ReadFault (S.faults source.old) (S.faults source.new) result }
 {
@@ -41,17 +50,12 @@ fn cut_opened<S: Source>(
         mut reader,
         machine,
     } = opening;
-    let base = reader.header().base;
-    let Some(end) = reader.end(source)? else {
-        return Err(Status::NotBuilt(base));
-    };
-    let span = Span {
-        base,
-        end,
-        from,
-        to,
-    };
-    let window = cut(alloc, machine, span)?;
+    let header = *reader.header();
+    let item = reader.next(source)?;
+    if !is_end(&item.what) {
+        return Err(Status::NotBuilt(header.base));
+    }
+    let window = cut(alloc, machine, &header, item.step, span)?;
     reader.close(source)?;
     match window {
         Some(slice) => Ok(slice),
@@ -59,20 +63,42 @@ fn cut_opened<S: Source>(
     }
 }
 
-/// Reads a whole recording, and cuts the window off. Each refusal is that of the first bad place of the input, NotThere
-/// where the input is accepted and the window isn't there.
-pub(crate) fn read_slice<S: Source>(
-    alloc: Global,
-    from: u64,
-    to: u64,
-    source: &mut S,
-) -> Result<Slice, Status>
-    ensures told { IsSome (S.left source.old) → IsSome (S.left source.new) }
-    ensures judged { IsSome (S.left source.old) → ReadsSlice from to (judged (unwrap_or (S.left source.old) [])) result }
-    ensures whole { IfOk result IsWhole }
+// Reads a whole recording, and cuts the window off.
+fn read_slice<S: Source>(alloc: Global, span: Span, source: &mut S) -> Result<Slice, Status>
+    ensures reads { IsSome (S.left source.old) → (input : List ℕ) → Begins (S.given source.new) input → AreBytes (input_behind (S.given source.old) input)
+        → ReadsSlice span.from span.to (input_behind (S.given source.old) input)
+        (MayBeWhole (S.left source.new) (S.given source.new) input) (input ≡ S.given source.new) result }
     ensures kind { IfErr result IsReadRefusal }
     ensures cause { HasCause Status.ReadFault (S.faults source.old) (S.faults source.new) result }
 {
     let opening = open(alloc, source)?;
-    cut_opened(alloc, opening, from, to, source)
+    cut_opened(alloc, opening, span, source)
+}
+
+/// Reads a recording, runs it, and writes the window of it.
+pub(crate) fn window<S: Source, T: Sink>(
+    alloc: Global,
+    span: Span,
+    source: &mut S,
+    sink: &mut T,
+) -> Status
+    ensures answer { IsSome (S.left source.old) → (input : List ℕ) → Begins (S.given source.new) input → AreBytes (input_behind (S.given source.old) input)
+        → AnswersWindow span.from span.to (input_behind (S.given source.old) input)
+        (MayBeWhole (S.left source.new) (S.given source.new) input) (input ≡ S.given source.new) result }
+    ensures leaves { IsSome (S.left source.old) → (input : List ℕ) → Begins (S.given source.new) input → AreBytes (input_behind (S.given source.old) input)
+        → LeavesWindow span.from span.to (input_behind (S.given source.old) input)
+        (MayBeWhole (S.left source.new) (S.given source.new) input) result (T.held sink.old) (T.held sink.new) }
+    ensures kind { IsWindowStatus result }
+    ensures untouched { IsBeforeWriting result → sink.new ≡ sink.old }
+    ensures read_cause { CausedBy Status.ReadFault (S.faults source.old) (S.faults source.new) result }
+    ensures write_cause { CausedBy Status.WriteFault (T.faults sink.old) (T.faults sink.new) result }
+{
+    let slice = match read_slice(alloc, span, source) {
+        Ok(slice) => slice,
+        Err(status) => return status,
+    };
+    match slice.write(alloc, sink) {
+        Ok(()) => Status::Done,
+        Err(fault) => Status::from(fault),
+    }
 }

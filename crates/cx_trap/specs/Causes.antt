@@ -1,20 +1,26 @@
--- The causes of traps that this hart has (Privileged 1.12, section 3.1.15).
-use Rattle.std.specs.Prelude.{ℕ, ◌+◌, ◌^◌, List, [], ◌∷◌, Bool, ◌==◌, ◌||◌, nat_le}
+-- The causes of traps that this hart has (Privileged 1.12, section 3.1.15, table 3.6).
+use Rattle.std.specs.Prelude.{ℕ, ◌+◌, ◌%◌, List, [], ◌∷◌, Bool, ◌==◌, ◌||◌, nat_le}
 use Rattle.std.specs.List.{list_any}
+use Rattle.cx_csr.specs.declared.causes.TheConstants.{INTERRUPT_BIT, INSTRUCTION_ADDRESS_MISALIGNED, INSTRUCTION_ACCESS_FAULT, ILLEGAL_INSTRUCTION, BREAKPOINT, LOAD_ADDRESS_MISALIGNED, LOAD_ACCESS_FAULT, STORE_ADDRESS_MISALIGNED, STORE_ACCESS_FAULT, CALL_FROM_USER, CALL_FROM_SUPERVISOR, CALL_FROM_MACHINE, INSTRUCTION_PAGE_FAULT, LOAD_PAGE_FAULT, STORE_PAGE_FAULT}
+use Rattle.cx_csr.specs.declared.interrupts.TheConstants.{SSI, MSI, STI, MTI, SEI, MEI}
 
--- Bit 31 tells an interrupt from an exception, and the other bits are its number.
+-- The highest bit tells an interrupt from an exception, and the other bits are its number.
 abbrev pub is_interrupt : ℕ → Bool
-is_interrupt cause = nat_le (2 ^ 31) cause
+is_interrupt cause = nat_le INTERRUPT_BIT cause
 
--- Interrupts, the one that is taken first first: external, software and timer interrupt of machine mode, and the same of
--- supervisor mode (section 3.1.9).
+abbrev pub cause_number : ℕ → ℕ
+cause_number cause = cause % INTERRUPT_BIT
+
+-- the interrupts, the one that is taken first first (section 3.1.9)
 abbrev pub interrupts : List ℕ
-interrupts = 11 ∷ 3 ∷ 7 ∷ 9 ∷ 1 ∷ 5 ∷ []
+interrupts = MEI ∷ MSI ∷ MTI ∷ SEI ∷ SSI ∷ STI ∷ []
 
--- Exceptions: misaligned target, fetch access, illegal instruction, breakpoint, misaligned load, load access, misaligned
--- store, store access, the environment calls of the modes 0, 1 and 3, and the page faults of fetch, load and store.
 abbrev pub exceptions : List ℕ
-exceptions = 0 ∷ 1 ∷ 2 ∷ 3 ∷ 4 ∷ 5 ∷ 6 ∷ 7 ∷ 8 ∷ 9 ∷ 11 ∷ 12 ∷ 13 ∷ 15 ∷ []
+exceptions =
+    INSTRUCTION_ADDRESS_MISALIGNED ∷ INSTRUCTION_ACCESS_FAULT ∷ ILLEGAL_INSTRUCTION ∷ BREAKPOINT
+    ∷ LOAD_ADDRESS_MISALIGNED ∷ LOAD_ACCESS_FAULT ∷ STORE_ADDRESS_MISALIGNED ∷ STORE_ACCESS_FAULT
+    ∷ CALL_FROM_USER ∷ CALL_FROM_SUPERVISOR ∷ CALL_FROM_MACHINE
+    ∷ INSTRUCTION_PAGE_FAULT ∷ LOAD_PAGE_FAULT ∷ STORE_PAGE_FAULT ∷ []
 
 abbrev pub is_cause : ℕ → Bool
-is_cause cause = list_any (λ e. e == cause) exceptions || list_any (λ i. i + 2 ^ 31 == cause) interrupts
+is_cause cause = list_any (λ e. e == cause) exceptions || list_any (λ i. i + INTERRUPT_BIT == cause) interrupts

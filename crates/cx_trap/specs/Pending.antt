@@ -6,6 +6,8 @@ use Rattle.cx_csr.specs.declared.state.State.{State}
 use Rattle.cx_csr.specs.Bits.{is_set}
 use Rattle.cx_csr.specs.Values.{pending_bits}
 use Rattle.cx_trap.specs.Causes.{interrupts}
+use Rattle.cx_csr.specs.declared.modes.TheConstants.{USER, SUPERVISOR, MACHINE}
+use Rattle.cx_csr.specs.declared.status.TheConstants.{SIE, MIE}
 
 -- pending, and enabled each by itself
 abbrev pub enabled_bits : State → ℕ
@@ -13,12 +15,14 @@ enabled_bits s = bit_and (pending_bits s) s.csr.mie
 
 -- Those that aren't delegated may be taken to machine mode: always from below it, and in it where MIE is set.
 abbrev pub to_machine : State → ℕ
-to_machine s = if nat_lt s.mode 3 || is_set s.csr.mstatus 3 then bit_and (enabled_bits s) (2 ^ 32 - 1 - s.csr.mideleg) else 0
+to_machine s =
+    if nat_lt s.mode MACHINE || is_set s.csr.mstatus MIE then bit_and (enabled_bits s) (2 ^ 32 - 1 - s.csr.mideleg) else 0
 
 -- Those that are delegated may be taken to supervisor mode: always from user mode, in supervisor mode where SIE is set,
 -- and never from machine mode.
 abbrev pub to_supervisor : State → ℕ
-to_supervisor s = if s.mode == 0 || (s.mode == 1 && is_set s.csr.mstatus 1) then bit_and (enabled_bits s) s.csr.mideleg else 0
+to_supervisor s =
+    if s.mode == USER || (s.mode == SUPERVISOR && is_set s.csr.mstatus SIE) then bit_and (enabled_bits s) s.csr.mideleg else 0
 
 -- the first interrupt among these bits
 abbrev pub first_of : ℕ → Option ℕ

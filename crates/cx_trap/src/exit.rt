@@ -4,7 +4,26 @@ ghost use Rattle.std.specs.Prelude.{◌≡◌, ℕ, not, if◌then◌else◌, is
 ghost use Rattle.cx_csr.specs.Keeps.{Keeps};
 ghost use Rattle.cx_trap.specs.Return.{after_mret, after_sret, can_mret, can_sret, status_out_of_machine, status_out_of_supervisor};
 
-use cx_csr::{Illegal, State, is_bit_set, replace_bits};
+use cx_csr::modes::{MACHINE, SUPERVISOR};
+use cx_csr::status::{
+    MACHINE_RETURN_FIELDS, MACHINE_TRAP_FIELDS, MIE, MPIE, SIE, SPIE, SPP,
+    SUPERVISOR_RETURN_FIELDS, TSR,
+};
+use cx_csr::{Illegal, State, is_bit_set, previous_of_machine, replace_bits};
+
+/// Whether MRET is legal: in machine mode alone.
+pub fn can_mret(state: &State) -> bool
+    ensures { result ≡ can_mret state.now }
+{
+    state.mode == MACHINE
+}
+
+/// Whether SRET is legal: in machine mode, and in supervisor mode where TSR is 0.
+pub fn can_sret(state: &State) -> bool
+    ensures { result ≡ can_sret state.now }
+{
+    state.mode == MACHINE || state.mode == SUPERVISOR && !is_bit_set(state.csr.mstatus, TSR)
+}
 
 /// Returns from a trap to machine mode, which is legal in machine mode alone: the hart goes on at `mepc` in the mode
 /// before the trap, with interrupts enabled as they were. The reservation stays. A refusal changes nothing.
@@ -15,7 +34,7 @@ pub fn mret(state: &mut State) -> Result<(), Illegal>
     ensures keeps { (pages : ℕ) → Keeps pages state.old → Keeps pages state.new }
     ensures reservation { state.new.reservation ≡ state.old.reservation }
 {
-    if state.mode != 3 {
+    if !can_mret(state) {
         return Err(Illegal);
     }
     leave_machine(state);
@@ -32,7 +51,7 @@ pub fn sret(state: &mut State) -> Result<(), Illegal>
     ensures keeps { (pages : ℕ) → Keeps pages state.old → Keeps pages state.new }
     ensures reservation { state.new.reservation ≡ state.old.reservation }
 {
-    if state.mode != 3 && (state.mode != 1 || is_bit_set(state.csr.mstatus, 22)) {
+    if !can_sret(state) {
         return Err(Illegal);
     }
     leave_supervisor(state);
@@ -45,7 +64,7 @@ fn leave_machine(state: &mut State)
 {
     let status = state.csr.mstatus;
     state.pc = state.csr.mepc;
-    state.mode = ((status >> 11) & 3) as u8;
+    state.mode = previous_of_machine(status);
     state.csr.mstatus = unmasked_for_machine(status);
 }
 
@@ -55,7 +74,7 @@ fn leave_supervisor(state: &mut State)
 {
     let status = state.csr.mstatus;
     state.pc = state.csr.sepc;
-    state.mode = ((status >> 8) & 1) as u8;
+    state.mode = ((status >> SPP) & 1) as u8;
     state.csr.mstatus = unmasked_for_supervisor(status);
 }
 
@@ -63,16 +82,17 @@ fn leave_supervisor(state: &mut State)
 fn unmasked_for_machine(status: u32) -> u32
     ensures { result ≡ status_out_of_machine status }
 {
-    let fields = ((status >> 7) & 1) * 8 + 0x80;
-    if (status >> 11) & 3 == 3 {
-        return replace_bits(status, 0x1888, fields);
+    let fields = ((status >> MPIE) & 1) * (1 << MIE) + (1 << MPIE);
+    if previous_of_machine(status) == MACHINE {
+        return replace_bits(status, MACHINE_TRAP_FIELDS, fields);
     }
-    replace_bits(status, 0x0002_1888, fields)
+    replace_bits(status, MACHINE_RETURN_FIELDS, fields)
 }
 
 /// `mstatus` with SPIE moved to SIE and set, and SPP and MPRV cleared.
 fn unmasked_for_supervisor(status: u32) -> u32
     ensures { result ≡ status_out_of_supervisor status }
 {
-    replace_bits(status, 0x0002_0122, ((status >> 5) & 1) * 2 + 0x20)
+    let fields = ((status >> SPIE) & 1) * (1 << SIE) + (1 << SPIE);
+    replace_bits(status, SUPERVISOR_RETURN_FIELDS, fields)
 }

@@ -1,9 +1,13 @@
 //! The interrupt that is to be taken.
 
-ghost use Rattle.std.specs.Prelude.{◌≡◌, ◌+◌, ◌^◌, IsTrue, IfSome};
+ghost use Rattle.std.specs.Prelude.{◌≡◌, ◌+◌, IsTrue, IfSome};
 ghost use Rattle.cx_trap.specs.Causes.{is_cause};
 ghost use Rattle.cx_trap.specs.Pending.{enabled_bits, first_of, pending_of, to_machine, to_supervisor};
 
+use cx_csr::causes::INTERRUPT_BIT;
+use cx_csr::interrupts::{MEI, MSI, MTI, SEI, SSI, STI};
+use cx_csr::modes::{MACHINE, SUPERVISOR, USER};
+use cx_csr::status::{MIE, SIE};
 use cx_csr::{State, is_bit_set};
 
 /// The number of the interrupt that is to be taken before the next instruction, where there is one: the first of those
@@ -12,7 +16,7 @@ use cx_csr::{State, is_bit_set};
 #[inline]
 pub fn pending(state: &State) -> Option<u32>
     ensures value { result ≡ pending_of state.now }
-    ensures cause { IfSome result (λ i. IsTrue (is_cause (i + 2 ^ 31))) }
+    ensures cause { IfSome result (λ i. IsTrue (is_cause (i + INTERRUPT_BIT))) }
 {
     let enabled = (state.csr.mip | state.lines.0) & state.csr.mie;
     if enabled == 0 {
@@ -29,7 +33,7 @@ fn machine_bits(state: &State, enabled: u32) -> u32
     requires { enabled ≡ enabled_bits state.now }
     ensures { result ≡ to_machine state.now }
 {
-    if state.mode < 3 || is_bit_set(state.csr.mstatus, 3) {
+    if state.mode < MACHINE || is_bit_set(state.csr.mstatus, MIE) {
         return enabled & !state.csr.mideleg;
     }
     0
@@ -40,7 +44,7 @@ fn supervisor_bits(state: &State, enabled: u32) -> u32
     requires { enabled ≡ enabled_bits state.now }
     ensures { result ≡ to_supervisor state.now }
 {
-    if state.mode == 0 || state.mode == 1 && is_bit_set(state.csr.mstatus, 1) {
+    if state.mode == USER || state.mode == SUPERVISOR && is_bit_set(state.csr.mstatus, SIE) {
         return enabled & state.csr.mideleg;
     }
     0
@@ -52,18 +56,18 @@ fn first(bits: u32) -> Option<u32>
 {
     if bits == 0 {
         None
-    } else if is_bit_set(bits, 11) {
-        Some(11)
-    } else if is_bit_set(bits, 3) {
-        Some(3)
-    } else if is_bit_set(bits, 7) {
-        Some(7)
-    } else if is_bit_set(bits, 9) {
-        Some(9)
-    } else if is_bit_set(bits, 1) {
-        Some(1)
-    } else if is_bit_set(bits, 5) {
-        Some(5)
+    } else if is_bit_set(bits, MEI) {
+        Some(MEI)
+    } else if is_bit_set(bits, MSI) {
+        Some(MSI)
+    } else if is_bit_set(bits, MTI) {
+        Some(MTI)
+    } else if is_bit_set(bits, SEI) {
+        Some(SEI)
+    } else if is_bit_set(bits, SSI) {
+        Some(SSI)
+    } else if is_bit_set(bits, STI) {
+        Some(STI)
     } else {
         None
     }

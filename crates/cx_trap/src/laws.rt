@@ -8,9 +8,11 @@ ghost use Rattle.cx_trap.specs.Enter.{entered};
 ghost use Rattle.cx_trap.specs.Pending.{pending_of};
 ghost use Rattle.cx_trap.specs.Return.{after_mret, after_sret};
 
-/// The interrupt that is to be taken is a cause of a trap, with bit 31.
+use cx_csr::causes::INTERRUPT_BIT;
+
+/// The interrupt that is to be taken is a cause of a trap, with the bit of an interrupt.
 pub fn pending_is_a_cause()
-    ensures { (s : State) → IfSome (pending_of s) (λ i. IsTrue (is_cause (i + 2 ^ 31))) }
+    ensures { (s : State) → IfSome (pending_of s) (λ i. IsTrue (is_cause (i + INTERRUPT_BIT))) }
 {}
 
 /// Entry into a trap keeps the rules.

@@ -13,7 +13,7 @@ mod laws;
 
 pub use causes::is_trap_cause;
 pub use entry::enter;
-pub use exit::{mret, sret};
+pub use exit::{can_mret, can_sret, mret, sret};
 pub use interrupts::pending;
 pub use laws::{pending_is_a_cause, returns_keep, traps_keep};
 

@@ -2,9 +2,9 @@
 use Rattle.std.proofs.Common.{◌≡◌, Some, refl}
 use Rattle.cx_walk.specs.declared.device.DeviceWord.{DeviceWord}
 use Rattle.cx_walk.specs.declared.device.DeviceWord.TheVariants.{Power, SoftwareInterrupt, TimeCompareLow, TimeCompareHigh, TimeLow, TimeHigh, MachineInterruptMask, SupervisorInterruptMask, InterruptPending, ConsoleData, ConsoleState, BlockSector, BlockAddress, BlockCount, BlockCommand, BlockState}
-use Rattle.cx_walk.specs.Devices.{device_at, place_of}
+use Rattle.cx_walk.specs.Devices.{device_at, device_place}
 
-pub found_at_place : (word : DeviceWord) → device_at (place_of word) ≡ Some word
+pub found_at_place : (word : DeviceWord) → device_at (device_place word) ≡ Some word
 unfolding device_at
 found_at_place Power = refl
 found_at_place SoftwareInterrupt = refl

@@ -1,8 +1,9 @@
 -- The address of a walk, and what stands there.
-use Rattle.std.proofs.Common.{◌≡◌, ℕ, ◌+◌, ◌*◌, ◌%◌, ◌^◌, ◌⊎◌, true, nat_le, ◌&&◌, Option, None, Some, Result, Ok, Err, inl, inr, is_some, IfOk, refl, sym, subst, arith}
+use Rattle.std.proofs.Common.{◌≡◌, ℕ, ◌+◌, ◌%◌, ◌⊎◌, true, nat_le, ◌&&◌, Option, None, Some, Result, Ok, Err, inl, inr, is_some, IfOk, refl, sym, subst, arith}
 use borrow.Author.Tests.{eqb-true, leb-true}
 use Rattle.cx_walk.proofs.Branches.{either, both_true}
 use Rattle.std.specs.Result.{result_ok}
+use Rattle.cx_csr.specs.Rules.{is_in_ram}
 use Rattle.cx_csr.specs.declared.state.State.{State}
 use Rattle.cx_walk.specs.declared.kind.Kind.{Kind}
 use Rattle.cx_walk.specs.declared.kind.Kind.TheVariants.{Fetch, Load, Store, Reserve, Atomic}
@@ -13,7 +14,9 @@ use Rattle.cx_walk.specs.declared.walk.Trail.{Trail}
 use Rattle.cx_walk.specs.Devices.{device_at}
 use Rattle.cx_walk.specs.Entry.{is_open, is_pointer, physical_address, first_place, second_place}
 use Rattle.cx_walk.specs.Mode.{is_bare}
-use Rattle.cx_walk.specs.Walks.{IsFound, address_of, address_through, answer_of, from_first, from_second, is_for_devices, is_in_ram, place_at, trail_of, walk_of}
+use Rattle.cx_walk.specs.Walks.{IsFound, address_of, address_through, walk_answer, from_first, from_second, is_for_devices, place_at, trail_of, walk_of}
+use Rattle.cx_map.specs.Map.{size_of_pages}
+use Rattle.cx_map.specs.declared.TheConstants.{RAM_START}
 
 -- a place stands at the address that it was found at
 place_stands : (pages : ℕ) (kind : Kind) (len address : ℕ) → IfOk (place_at pages kind len address) (λ place. ◌≡◌ {A = Option ℕ} (Some address) (Some (address_of place)))
@@ -32,10 +35,10 @@ pub place_found : (pages : ℕ) (kind : Kind) (len address : ℕ) → address % 
 unfolding place_at
 place_found pages kind len address aligned =
     let Fits : Result Place ℕ → Type 0 = λ r. IfOk r (IsFound pages kind len) in
-    either Fits (is_in_ram pages len address) _ _
+    either Fits (is_in_ram (size_of_pages pages) address len) _ _
     (λ inside.
-    let ends = both_true (nat_le (2 ^ 31) address) (nat_le (address + len) (2 ^ 31 + pages * 4096)) inside in
-    record { low = leb-true _ _ ends.0; high = leb-true _ _ ends.1; aligned = aligned })
+    let ends = both_true (nat_le RAM_START address) (nat_le (address + len) (RAM_START + size_of_pages pages)) inside in
+    record { inside = record { low = leb-true _ _ ends.0; high = leb-true _ _ ends.1 }; aligned = aligned })
     (λ outside. either Fits (is_for_devices kind len && is_some (device_at address)) _ _
     (λ device.
     let parts = both_true (is_for_devices kind len) (is_some (device_at address)) device in
@@ -87,11 +90,11 @@ module _ (len : ℕ) where
         (λ translated. from_first_aligned word (first_place s.csr.satp va) (word (first_place s.csr.satp va)))
 
 -- the answer stands at the address of the trail
-answer_stands : (pages : ℕ) (kind : Kind) (len : ℕ) (outcome : Result ℕ ℕ) → IfOk (answer_of pages kind len outcome) (λ place. result_ok outcome ≡ Some (address_of place))
+answer_stands : (pages : ℕ) (kind : Kind) (len : ℕ) (outcome : Result ℕ ℕ) → IfOk (walk_answer pages kind len outcome) (λ place. result_ok outcome ≡ Some (address_of place))
 answer_stands pages kind len (Ok address) = place_stands pages kind len address
 answer_stands pages kind len (Err cause) = tt
 
-answer_found : (pages : ℕ) (kind : Kind) (len : ℕ) (outcome : Result ℕ ℕ) → IfOk outcome (λ address. address % len ≡ 0) → IfOk (answer_of pages kind len outcome) (IsFound pages kind len)
+answer_found : (pages : ℕ) (kind : Kind) (len : ℕ) (outcome : Result ℕ ℕ) → IfOk outcome (λ address. address % len ≡ 0) → IfOk (walk_answer pages kind len outcome) (IsFound pages kind len)
 answer_found pages kind len (Ok address) aligned = place_found pages kind len address aligned
 answer_found pages kind len (Err cause) aligned = tt
 

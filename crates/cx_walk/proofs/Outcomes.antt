@@ -1,6 +1,7 @@
 -- What a walk comes to: its address has the offset of the virtual one, and its fault is one of its kind of access.
-use Rattle.std.proofs.Common.{◌≡◌, ℕ, ◌%◌, ◌⊎◌, ◌&&◌, inl, inr, is_some, Option, None, Some, Result, Ok, Err, IfOk, IfErr, refl, subst, arith}
+use Rattle.std.proofs.Common.{◌≡◌, ℕ, ◌%◌, ◌&&◌, inl, inr, is_some, Option, None, Some, Result, Ok, Err, IfOk, IfErr, refl, subst, arith}
 use Rattle.std.specs.Result.{result_ok}
+use Rattle.cx_csr.specs.Rules.{is_in_ram}
 use Rattle.cx_csr.specs.declared.state.State.{State}
 use Rattle.cx_walk.specs.declared.entry.Size.{Size}
 use Rattle.cx_walk.specs.declared.entry.Size.TheVariants.{Page, Megapage}
@@ -11,13 +12,15 @@ use Rattle.cx_walk.specs.Devices.{device_at}
 use Rattle.cx_walk.specs.Entry.{first_place, is_open, is_pointer, physical_address, second_place}
 use Rattle.cx_walk.specs.Kinds.{IsFault, page_fault}
 use Rattle.cx_walk.specs.Mode.{is_bare}
-use Rattle.cx_walk.specs.Walks.{address_of, address_through, answer_of, from_first, from_second, is_for_devices, is_in_ram, place_at, trail_of, walk_of}
+use Rattle.cx_walk.specs.Walks.{address_of, address_through, walk_answer, from_first, from_second, is_for_devices, place_at, trail_of, walk_of}
 use Rattle.cx_walk.proofs.Branches.{either}
 use Rattle.cx_walk.proofs.Found.{walk_stands}
+use Rattle.cx_map.specs.Map.{size_of_pages}
+use Rattle.cx_map.specs.declared.TheConstants.{PAGE_SIZE}
 
--- the same offset in a page of 4,096 bytes
+-- the same offset in a page
 abbrev pub SameOffset : ℕ → ℕ → Type 0
-SameOffset va address = address % 4096 ≡ va % 4096
+SameOffset va address = address % PAGE_SIZE ≡ va % PAGE_SIZE
 
 -- what is said of a walk's address where it has one, and of its cause where it has none
 abbrev Comes : Kind → ℕ → Result ℕ ℕ → Type 0
@@ -58,10 +61,10 @@ module _ (s : State) (kind : Kind) (va : ℕ) where
   unfolding place_at
   place_faults pages len address =
       let P : Result Place ℕ → Type 0 = λ r. IfErr r (IsFault kind) in
-      either P (is_in_ram pages len address) _ _ (λ inside. tt)
+      either P (is_in_ram (size_of_pages pages) address len) _ _ (λ inside. tt)
       (λ outside. either P (is_for_devices kind len && is_some (device_at address)) _ _ (λ device. tt) (λ none. inl refl))
 
-  answer_faults : (pages len : ℕ) (outcome : Result ℕ ℕ) → Comes kind va outcome → IfErr (answer_of pages kind len outcome) (IsFault kind)
+  answer_faults : (pages len : ℕ) (outcome : Result ℕ ℕ) → Comes kind va outcome → IfErr (walk_answer pages kind len outcome) (IsFault kind)
   answer_faults pages len (Ok address) comes = place_faults pages len address
   answer_faults pages len (Err cause) comes = comes
 
@@ -75,6 +78,6 @@ module _ (s : State) (kind : Kind) (va : ℕ) where
     unfolding walk_of
     walk_faults = answer_faults pages len (trail_of word s kind va).outcome (trail_comes word)
 
-    pub walk_offset : IfOk (walk_of word pages s kind va len).answer (λ place. address_of place % 4096 ≡ va % 4096)
+    pub walk_offset : IfOk (walk_of word pages s kind va len).answer (λ place. address_of place % PAGE_SIZE ≡ va % PAGE_SIZE)
     unfolding walk_of
     walk_offset = answer_offset (trail_of word s kind va).outcome _ (trail_comes word) (walk_stands word pages s kind va len)

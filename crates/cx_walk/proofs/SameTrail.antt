@@ -5,7 +5,7 @@ use Rattle.cx_walk.specs.declared.kind.Kind.{Kind}
 use Rattle.cx_walk.specs.declared.entry.Size.TheVariants.{Megapage}
 use Rattle.cx_walk.specs.declared.walk.Trail.{Trail}
 use Rattle.cx_walk.specs.Agreement.{AgreesOn}
-use Rattle.cx_walk.specs.Bytes.{word_at}
+use Rattle.cx_walk.specs.Bytes.{word_in}
 use Rattle.cx_walk.specs.Entry.{is_pointer, first_place, second_place}
 use Rattle.cx_walk.specs.Mode.{is_bare}
 use Rattle.cx_walk.specs.Walks.{address_through, from_first, from_second, trail_of, walk_of, walk_to}
@@ -52,9 +52,9 @@ module _ (w v : ℕ → Option ℕ) (outside : (p : ℕ) → w p ≡ None → v 
 
 -- the same of views by their bytes
 pub same_walk : (first second : ℕ → Option ℕ) (pages : ℕ) (s : State) (kind : Kind) (va len : ℕ)
-    → AgreesOn first second (walk_of (word_at first) pages s kind va len)
-    → walk_of (word_at second) pages s kind va len ≡ walk_of (word_at first) pages s kind va len
+    → AgreesOn first second (walk_of (word_in first) pages s kind va len)
+    → walk_of (word_in second) pages s kind va len ≡ walk_of (word_in first) pages s kind va len
 unfolding walk_of
 same_walk first second pages s kind va len agrees =
-    ap (walk_to pages kind len) (same_trail (word_at first) (word_at second) (no_word first second agrees.outside) s kind va
-    (λ i below. same_word_at first second (slice_index (trail_of (word_at first) s kind va).places i) (agrees.places i below)))
+    ap (walk_to pages kind len) (same_trail (word_in first) (word_in second) (no_word first second agrees.outside) s kind va
+    (λ i below. same_word_at first second (slice_index (trail_of (word_in first) s kind va).places i) (agrees.places i below)))

@@ -1,6 +1,8 @@
 -- A view of memory: the byte at each place, where one stands.
-use Rattle.std.specs.Prelude.{ℕ, ◌+◌, ◌-◌, ◌^◌, nat_le, if◌then◌else◌, List, [], ◌∷◌, slice_get, Option, None, Some}
+use Rattle.std.specs.Prelude.{ℕ, ◌+◌, nat_le, if◌then◌else◌, List, [], ◌∷◌, slice_get, Option, None, Some}
 use Rattle.std.specs.Int.{w32, from_le_bytes}
+use Rattle.cx_map.specs.Map.{ram_index}
+use Rattle.cx_map.specs.declared.TheConstants.{RAM_START}
 
 -- the number of four bytes, the lowest first, where all are there
 abbrev pub four_bytes : Option ℕ → Option ℕ → Option ℕ → Option ℕ → Option ℕ
@@ -11,9 +13,9 @@ four_bytes (Some a) None c d = None
 four_bytes None b c d = None
 
 -- the word at a place
-unfoldable pub word_at : (ℕ → Option ℕ) → ℕ → Option ℕ
-word_at bytes place = four_bytes (bytes place) (bytes (place + 1)) (bytes (place + 2)) (bytes (place + 3))
+unfoldable pub word_in : (ℕ → Option ℕ) → ℕ → Option ℕ
+word_in bytes place = four_bytes (bytes place) (bytes (place + 1)) (bytes (place + 2)) (bytes (place + 3))
 
--- The bytes of RAM, which begins at 2^31. A view of RAM and nothing else has this map.
+-- The bytes of RAM. A view of RAM and nothing else has this map.
 unfoldable pub ram_bytes : List ℕ → ℕ → Option ℕ
-ram_bytes ram place = if nat_le (2 ^ 31) place then slice_get ram (place - 2 ^ 31) else None
+ram_bytes ram place = if nat_le RAM_START place then slice_get ram (ram_index place) else None

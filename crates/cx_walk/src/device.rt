@@ -1,7 +1,7 @@
 //! The words of the devices.
 
 ghost use Rattle.std.specs.Prelude.{◌≡◌, IfSome};
-ghost use Rattle.cx_walk.specs.Devices.{device_at, place_of};
+ghost use Rattle.cx_walk.specs.Devices.{device_at, device_place};
 
 /// A word of the devices, which only loads and stores of a whole word reach.
 #[derive(Clone, Copy, Debug, PartialEq, Eq)]
@@ -45,7 +45,7 @@ impl DeviceWord {
     #[tactic(auto, unfolding(crate::specs::Devices::device_at))]
     pub fn at(place: u64) -> Option<DeviceWord>
         ensures found { result ≡ device_at place }
-        ensures place { IfSome result (λ word. place_of word ≡ place) }
+        ensures place { IfSome result (λ word. device_place word ≡ place) }
     {
         Some(match place {
             0x0010_0000 => DeviceWord::Power,
@@ -70,7 +70,7 @@ impl DeviceWord {
 
     /// The place of the word.
     pub fn place(self) -> u32
-        ensures { result ≡ place_of self }
+        ensures { result ≡ device_place self }
     {
         match self {
             DeviceWord::Power => 0x0010_0000,

@@ -3,6 +3,11 @@
 ghost use Rattle.std.specs.Prelude.{◌≡◌};
 ghost use Rattle.cx_walk.specs.Kinds.{access_fault, is_fetch, is_write, page_fault};
 
+use cx_csr::causes::{
+    INSTRUCTION_ACCESS_FAULT, INSTRUCTION_PAGE_FAULT, LOAD_ACCESS_FAULT, LOAD_PAGE_FAULT,
+    STORE_ACCESS_FAULT, STORE_PAGE_FAULT,
+};
+
 /// What an access to memory is for.
 #[derive(Clone, Copy, Debug, PartialEq, Eq)]
 pub enum Kind {
@@ -25,9 +30,9 @@ impl Kind {
         ensures { result ≡ access_fault self }
     {
         match self {
-            Kind::Fetch => 1,
-            Kind::Load | Kind::Reserve => 5,
-            Kind::Store | Kind::Atomic => 7,
+            Kind::Fetch => INSTRUCTION_ACCESS_FAULT,
+            Kind::Load | Kind::Reserve => LOAD_ACCESS_FAULT,
+            Kind::Store | Kind::Atomic => STORE_ACCESS_FAULT,
         }
     }
 
@@ -37,9 +42,9 @@ impl Kind {
         ensures { result ≡ page_fault self }
     {
         match self {
-            Kind::Fetch => 12,
-            Kind::Load | Kind::Reserve => 13,
-            Kind::Store | Kind::Atomic => 15,
+            Kind::Fetch => INSTRUCTION_PAGE_FAULT,
+            Kind::Load | Kind::Reserve => LOAD_PAGE_FAULT,
+            Kind::Store | Kind::Atomic => STORE_PAGE_FAULT,
         }
     }
 

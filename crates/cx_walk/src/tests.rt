@@ -6,12 +6,17 @@ mod tables;
 mod view;
 
 use crate::Kind;
+use cx_csr::causes::*;
 
 // The kinds of accesses, and the causes of their page faults and access faults.
 const KINDS: [(Kind, u32, u32); 5] = [
-    (Kind::Fetch, 12, 1),
-    (Kind::Load, 13, 5),
-    (Kind::Store, 15, 7),
-    (Kind::Reserve, 13, 5),
-    (Kind::Atomic, 15, 7),
+    (
+        Kind::Fetch,
+        INSTRUCTION_PAGE_FAULT,
+        INSTRUCTION_ACCESS_FAULT,
+    ),
+    (Kind::Load, LOAD_PAGE_FAULT, LOAD_ACCESS_FAULT),
+    (Kind::Store, STORE_PAGE_FAULT, STORE_ACCESS_FAULT),
+    (Kind::Reserve, LOAD_PAGE_FAULT, LOAD_ACCESS_FAULT),
+    (Kind::Atomic, STORE_PAGE_FAULT, STORE_ACCESS_FAULT),
 ];

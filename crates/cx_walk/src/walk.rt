@@ -1,8 +1,10 @@
 //! The walk of a page table.
 
 ghost use Rattle.std.specs.Prelude.{◌≡◌, ◌%◌, ◌⊎◌, ◌≤◌, [], ◌∷◌, IfOk, Some};
-ghost use Rattle.cx_walk.specs.Bytes.{word_at};
-ghost use Rattle.cx_walk.specs.Walks.{IsFound, address_of, address_through, is_for_devices, is_in_ram, place_at, trail_of, walk_of, walk_to};
+ghost use Rattle.cx_csr.specs.Rules.{is_in_ram};
+ghost use Rattle.cx_map.specs.Map.{size_of_pages};
+ghost use Rattle.cx_walk.specs.Bytes.{word_in};
+ghost use Rattle.cx_walk.specs.Walks.{IsFound, address_of, address_through, is_for_devices, place_at, trail_of, walk_of, walk_to};
 
 use crate::device::DeviceWord;
 use crate::entry::{Entry, Size};
@@ -10,6 +12,7 @@ use crate::kind::Kind;
 use crate::mode::is_bare;
 use crate::words::Words;
 use cx_csr::State;
+use cx_map::{MOST_PAGES, PAGE_SIZE, RAM_START};
 
 /// What stands at a physical address.
 #[derive(Clone, Copy, Debug, PartialEq, Eq)]
@@ -76,7 +79,7 @@ impl Trail {
     /// The walk that this trail makes, and what stands at its address.
     #[inline]
     fn end(self, pages: u32, kind: Kind, len: u8) -> Walk
-        requires { pages ≤ 262144 }
+        requires { pages ≤ MOST_PAGES }
         ensures { result ≡ walk_to pages kind len self }
     {
         Walk {
@@ -100,7 +103,7 @@ impl Trail {
 pub fn translate<V: Words>(view: &V, state: &State, kind: Kind, va: u32, len: u8) -> Walk
     requires length { (len ≡ 1) ⊎ (len ≡ 2) ⊎ (len ≡ 4) }
     requires aligned { va % len ≡ 0 }
-    ensures walk { result ≡ walk_of (word_at (V.bytes view.now)) (V.pages view.now) state.now kind va len }
+    ensures walk { result ≡ walk_of (word_in (V.bytes view.now)) (V.pages view.now) state.now kind va len }
     ensures address { IfOk result.answer (λ place. result.address ≡ Some (address_of place)) }
     ensures found { IfOk result.answer (IsFound (V.pages view.now) kind len) }
 {
@@ -110,7 +113,7 @@ pub fn translate<V: Words>(view: &V, state: &State, kind: Kind, va: u32, len: u8
 /// Follows the page table to the physical address.
 #[tactic(auto, unfolding(crate::specs::Walks::trail_of))]
 fn follow<V: Words>(view: &V, state: &State, kind: Kind, va: u32) -> Trail
-    ensures { result ≡ trail_of (word_at (V.bytes view.now)) state.now kind va }
+    ensures { result ≡ trail_of (word_in (V.bytes view.now)) state.now kind va }
 {
     if is_bare(state, kind) {
         return Trail::through_none(Ok(va as u64));
@@ -147,7 +150,7 @@ fn address_through(state: &State, kind: Kind, va: u32, size: Size, entry: Entry)
 #[tactic(auto, unfolding(crate::specs::Walks::place_at))]
 #[inline]
 fn place_at(pages: u32, kind: Kind, len: u8, address: u64) -> Result<Place, u32>
-    requires { pages ≤ 262144 }
+    requires { pages ≤ MOST_PAGES }
     ensures { result ≡ place_at pages kind len address }
 {
     if is_in_ram(pages, len, address) {
@@ -161,11 +164,11 @@ fn place_at(pages: u32, kind: Kind, len: u8, address: u64) -> Result<Place, u32>
 
 #[inline]
 fn is_in_ram(pages: u32, len: u8, address: u64) -> bool
-    requires { pages ≤ 262144 }
-    ensures { result ≡ is_in_ram pages len address }
+    ensures { result ≡ is_in_ram (size_of_pages pages) address len }
 {
-    let end = 0x8000_0000 + pages as u64 * 4096;
-    0x8000_0000 <= address && address <= end && len as u64 <= end - address
+    let start = RAM_START as u64;
+    let end = start + pages as u64 * PAGE_SIZE as u64;
+    start <= address && address <= end && len as u64 <= end - address
 }
 
 #[inline]

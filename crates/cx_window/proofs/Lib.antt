@@ -1,5 +1,6 @@
 pub mod Marking
-pub mod Advance
-pub mod RunParts
 pub mod Copies
+pub mod RunSlices
+pub mod Running
+pub mod WindowOf
 pub mod Kept

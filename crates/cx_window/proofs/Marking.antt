@@ -1,12 +1,13 @@
 -- Marks of the pages of some bytes.
-use Rattle.std.proofs.Common.{◌≡◌, ◌≢◌, ℕ, zero, suc, ◌+◌, ◌-◌, ◌/◌, ◌^◌, ◌<◌, ◌≤◌, Bool, true, false, ◌||◌, eqb, List, [], ◌∷◌, ◌++◌, length, get_or, set, take, inl, inr, arith, refl, ap, sym, ◌∙◌, append-nil, append_assoc, add-one, leb}
+use Rattle.std.proofs.Common.{◌≡◌, ◌≢◌, ℕ, zero, suc, ◌+◌, ◌-◌, ◌/◌, ◌<◌, ◌≤◌, Bool, true, false, ◌||◌, eqb, List, [], ◌∷◌, ◌++◌, length, get_or, set, take, inl, inr, arith, refl, ap, sym, ◌∙◌, append-nil, append_assoc, add-one, leb}
 use Rattle.std.proofs.lemmas.Bool.{eq-eqb, eqb-true, false_from_ne_true, cases_eq, le-leb, leb-true}
 use Rattle.std.proofs.lemmas.List.{get_or-set_same, get_or-set_other}
+use Rattle.cx_map.specs.declared.TheConstants.{PAGE_SIZE, RAM_START}
 use Rattle.cx_hart.specs.Reads.{entry_indices, indices, ram_indices}
 use Rattle.cx_run.specs.Window.{any_in_page}
 use Rattle.cx_window.specs.Marks.{AddsMarks}
 
-or_false : (a : Bool) → (a || false) ≡ a
+pub or_false : (a : Bool) → (a || false) ≡ a
 or_false true = refl
 or_false false = refl
 
@@ -31,7 +32,7 @@ no_mark marks page k beyond inside = let different : eqb page k ≡ false = fals
 
 any_in_page-append : (xs ys : List ℕ) (k : ℕ) → any_in_page (xs ++ ys) k ≡ (any_in_page xs k || any_in_page ys k)
 any_in_page-append [] ys k = refl
-any_in_page-append (x ∷ xs) ys k = ap (λ (b : Bool). eqb (x / 4096) k || b) (any_in_page-append xs ys k) ∙ sym (or_assoc (eqb (x / 4096) k) (any_in_page xs k) (any_in_page ys k))
+any_in_page-append (x ∷ xs) ys k = ap (λ (b : Bool). eqb (x / PAGE_SIZE) k || b) (any_in_page-append xs ys k) ∙ sym (or_assoc (eqb (x / PAGE_SIZE) k) (any_in_page xs k) (any_in_page ys k))
 
 pub nothing_marked : (marks : List Bool) → AddsMarks marks marks []
 nothing_marked marks = record { size = refl; pages = λ k inside. sym (or_false (get_or marks k false)) }
@@ -53,37 +54,37 @@ or_last false true = refl
 or_last false false = refl
 
 -- Of so few bytes each lies in the page of the first or in that of the last.
-pub any_of_indices : (i n k : ℕ) → n < 4096 → any_in_page (indices i (suc n)) k ≡ (eqb (i / 4096) k || eqb ((i + n) / 4096) k)
-any_of_indices i zero k few = let e : i + 0 ≡ i = omega arith in rw e (or_false (eqb (i / 4096) k) ∙ sym (or_same (eqb (i / 4096) k)))
+pub any_of_indices : (i n k : ℕ) → n < PAGE_SIZE → any_in_page (indices i (suc n)) k ≡ (eqb (i / PAGE_SIZE) k || eqb ((i + n) / PAGE_SIZE) k)
+any_of_indices i zero k few = let e : i + 0 ≡ i = omega arith in rw e (or_false (eqb (i / PAGE_SIZE) k) ∙ sym (or_same (eqb (i / PAGE_SIZE) k)))
   where
     or_same : (a : Bool) → (a || a) ≡ a
     or_same true = refl
     or_same false = refl
 any_of_indices i (suc n) k few =
-    let rest : any_in_page (indices (i + 1) (suc n)) k ≡ (eqb ((i + 1) / 4096) k || eqb ((i + 1 + n) / 4096) k) = any_of_indices (i + 1) n k (omega arith) in
+    let rest : any_in_page (indices (i + 1) (suc n)) k ≡ (eqb ((i + 1) / PAGE_SIZE) k || eqb ((i + 1 + n) / PAGE_SIZE) k) = any_of_indices (i + 1) n k (omega arith) in
     let last : i + 1 + n ≡ i + suc n = omega arith in
-    ap (λ (b : Bool). eqb (i / 4096) k || b) (rw last at rest) ∙ elim (cases_eq ((i + 1) / 4096) (i / 4096)) [
-      | inl same ↦ rw same (or_twice (eqb (i / 4096) k) (eqb ((i + suc n) / 4096) k))
-      | inr other ↦ (let next : (i + 1) / 4096 ≡ (i + suc n) / 4096 = omega (arith, other) in rw next (or_last (eqb (i / 4096) k) (eqb ((i + suc n) / 4096) k)))
+    ap (λ (b : Bool). eqb (i / PAGE_SIZE) k || b) (rw last at rest) ∙ elim (cases_eq ((i + 1) / PAGE_SIZE) (i / PAGE_SIZE)) [
+      | inl same ↦ rw same (or_twice (eqb (i / PAGE_SIZE) k) (eqb ((i + suc n) / PAGE_SIZE) k))
+      | inr other ↦ (let next : (i + 1) / PAGE_SIZE ≡ (i + suc n) / PAGE_SIZE = omega (arith, other) in rw next (or_last (eqb (i / PAGE_SIZE) k) (eqb ((i + suc n) / PAGE_SIZE) k)))
     ]
 
 -- the pages of the first byte and of the last
-pub bytes_marked : (one two three : List Bool) (place len : ℕ) → 2 ^ 31 ≤ place → len ≢ 0 → len < 256
-    → length two ≡ length one → ((k : ℕ) → k < length one → get_or two k false ≡ (get_or one k false || eqb ((place - 2 ^ 31) / 4096) k))
-    → length three ≡ length two → ((k : ℕ) → k < length two → get_or three k false ≡ (get_or two k false || eqb ((place - 2 ^ 31 + (len - 1)) / 4096) k))
+pub bytes_marked : (one two three : List Bool) (place len : ℕ) → RAM_START ≤ place → len ≢ 0 → len < 256
+    → length two ≡ length one → ((k : ℕ) → k < length one → get_or two k false ≡ (get_or one k false || eqb ((place - RAM_START) / PAGE_SIZE) k))
+    → length three ≡ length two → ((k : ℕ) → k < length two → get_or three k false ≡ (get_or two k false || eqb ((place - RAM_START + (len - 1)) / PAGE_SIZE) k))
     → AddsMarks one three (ram_indices place len)
 bytes_marked one two three place zero low some few size first size' last = absurd (some refl)
 bytes_marked one two three place (suc n) low some few size first size' last =
-    let inside : leb (2 ^ 31) place ≡ true = le-leb (2 ^ 31) place low in
+    let inside : leb (RAM_START) place ≡ true = le-leb (RAM_START) place low in
     let rest : suc n - 1 ≡ n = omega arith in
     rw inside (record {
       size = size' ∙ size;
-      pages = λ k below. rw (any_of_indices (place - 2 ^ 31) n k (omega arith), ← or_assoc) (rw rest at (last k (omega (arith, size))) ∙ ap (λ (b : Bool). b || eqb ((place - 2 ^ 31 + n) / 4096) k) (first k below));
+      pages = λ k below. rw (any_of_indices (place - RAM_START) n k (omega arith), ← or_assoc) (rw rest at (last k (omega (arith, size))) ∙ ap (λ (b : Bool). b || eqb ((place - RAM_START + n) / PAGE_SIZE) k) (first k below));
     })
 
 -- bytes of a device, or none
-pub no_bytes : (marks : List Bool) (place len : ℕ) → place < 2 ^ 31 → AddsMarks marks marks (ram_indices place len)
-no_bytes marks place len low = let outside : leb (2 ^ 31) place ≡ false = false_from_ne_true _ (λ h. let e = leb-true (2 ^ 31) place h in absurd (omega (arith, e))) in rw outside (nothing_marked marks)
+pub no_bytes : (marks : List Bool) (place len : ℕ) → place < RAM_START → AddsMarks marks marks (ram_indices place len)
+no_bytes marks place len low = let outside : leb (RAM_START) place ≡ false = false_from_ne_true _ (λ h. let e = leb-true (RAM_START) place h in absurd (omega (arith, e))) in rw outside (nothing_marked marks)
 
 -- the entries at one place more
 entries-more : (places : List ℕ) (n : ℕ) → n < length places → entry_indices (take (suc n) places) ≡ entry_indices (take n places) ++ ram_indices (get_or places n 0) 4

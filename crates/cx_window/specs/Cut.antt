@@ -1,54 +1,61 @@
 -- What cutting a window from a run gives.
-use Rattle.std.specs.Prelude.{◌≡◌, ◌≢◌, ℕ, ◌+◌, ◌-◌, ◌*◌, nat_lt, nat_le, ◌&&◌, Bool, length, true, false, [], Option, None, Some, Result, Ok, Err}
+use Rattle.std.specs.Prelude.{◌≡◌, ◌≢◌, ℕ, ◌+◌, ◌-◌, List, [], Bool, false, Option, None, Some, Result, Ok, Err}
+use Rattle.cx_hart.specs.HartStep.{hart_step}
+use Rattle.cx_hart.specs.Reads.{read_indices}
+use Rattle.cx_hart.specs.declared.record.StepRec.{StepRec}
 use Rattle.cx_log.specs.Recording.{Recording}
-use Rattle.cx_replay.specs.HartStep.{replay_step}
-use Rattle.cx_run.specs.Machine.{Machine}
-use Rattle.cx_run.specs.Run.{built_steps}
-use Rattle.cx_window.specs.Slice.{IsCut}
+use Rattle.cx_log.specs.declared.header.Header.{Header}
+use Rattle.cx_machine.specs.Machine.{MachineState}
+use Rattle.cx_run.specs.FirstBad.{carried}
+use Rattle.cx_run.specs.Run.{Run, run_of}
+use Rattle.cx_run.specs.Window.{IsWindow, has_window}
+use Rattle.cx_window.specs.Slice.{Sliced, written_of}
+use Rattle.cx_window.specs.Slicing.{Slices, Slicing}
 use Rattle.cx_window.specs.declared.fault.CutFault.{CutFault}
-use Rattle.cx_window.specs.declared.fault.CutFault.TheVariants.{NeedsValue, NoMemory}
-use Rattle.cx_window.specs.declared.span.Span.{Span}
-use Rattle.cx_window.specs.declared.slice.Slice.{Slice}
+use Rattle.cx_window.specs.declared.fault.CutFault.TheVariants.{Broken, NoMemory}
 
--- the window's steps are there
-abbrev pub has_window : Recording → ℕ → ℕ → Bool
-has_window R a b = nat_le R.base a && nat_lt a b && nat_le b R.end
+-- the recording without events that has this header, this memory and this end
+abbrev pub without_events : Header → List ℕ → ℕ → Recording
+without_events header memory end = record {
+  version = header.version;
+  split = header.split;
+  pages = header.pages;
+  base = header.base;
+  start = header.start;
+  memory = memory;
+  events = [];
+  end = end;
+}
 
--- a recording without events that begins with this machine
-pub record Begins (R : Recording) (span : Span) (machine : Machine) : Type 0 where
-  pub size : R.pages * 4096 ≡ length machine.memory
-  pub base : R.base ≡ span.base
-  pub end : R.end ≡ span.end
-  pub machine_is : machine ≡ record { state = R.start; memory = R.memory }
-  pub events : R.events ≡ []
-
--- how many steps of a recording are carried out before the first that isn't
-abbrev pub built : Recording → ℕ
-built R = built_steps replay_step R (R.end - R.base)
-
--- why a run stopped: memory, or the first step that asks for a value
+-- why a run stopped: memory, or the first step that isn't carried out
 abbrev pub StopsFor : Recording → CutFault → Type 0
 StopsFor R NoMemory = Unit {0}
-StopsFor R (NeedsValue n) = (n ≡ R.base + built R) × (built R ≢ R.end - R.base)
+StopsFor R (Broken n) = (n ≡ R.base + carried hart_step R) × (carried hart_step R ≢ R.end - R.base)
 
-abbrev pub RunsThrough : Recording → Result (Unit {0}) CutFault → Type 0
-RunsThrough R (Ok u) = built R ≡ R.end - R.base
-RunsThrough R (Err fault) = StopsFor R fault
-
--- a slice where the window's steps are there, and all steps were carried out
-abbrev pub CutsOff : Recording → ℕ → ℕ → Result (Option Slice) CutFault → Type 0
-CutsOff R a b (Ok None) = (built R ≡ R.end - R.base) × (has_window R a b ≡ false)
-CutsOff R a b (Ok (Some slice)) = (built R ≡ R.end - R.base) × (has_window R a b ≡ true) × IsCut R a b slice
+-- The window where its steps are there, and nothing where they aren't; all steps were carried out.
+abbrev pub CutsOff : Recording → ℕ → ℕ → Result (Option Sliced) CutFault → Type 0
+CutsOff R a b (Ok None) = (carried hart_step R ≡ R.end - R.base) × (has_window R a b ≡ false)
+CutsOff R a b (Ok (Some slice)) = (carried hart_step R ≡ R.end - R.base) × IsWindow (hart_step R.split) read_indices R a b (written_of slice)
 CutsOff R a b (Err fault) = StopsFor R fault
 
-abbrev pub CutsWindow : Recording → Span → Result Slice CutFault → Type 0
-CutsWindow R span (Ok slice) = (built R ≡ R.end - R.base) × IsCut R span.from span.to slice
-CutsWindow R span (Err fault) = StopsFor R fault
+-- a recording without events that begins with this machine
+pub record StartsWith (R : Recording) (machine : MachineState) (split : Bool) : Type 0 where
+  pub machine_is : machine ≡ record { state = R.start; memory = R.memory }
+  pub split_is : split ≡ R.split
+  pub events : R.events ≡ []
 
--- the sizes and the steps of a slice, for a memory of so many bytes
-pub record HasSizes (size : ℕ) (span : Span) (s : Slice) : Type 0 where
-  pub pages : s.pages * 4096 ≡ size
-  pub from : s.from ≡ span.from
-  pub to : s.to ≡ span.to
-  pub memory : length s.memory.items ≡ size
-  pub marks : length s.marks.items ≡ s.pages
+-- The run of so many steps stands at this machine, and this is kept of it.
+pub record HasRun (R : Recording) (n : ℕ) (machine : MachineState) (kept : Slicing) : Type 0 where
+  pub records : List StepRec
+  pub run : run_of (hart_step R.split) R n ≡ Some (record { machine = machine; records = records })
+  pub slices : Slices R records kept
+
+-- the run went through, and this is kept of it
+pub record RunsThrough (R : Recording) (kept : Slicing) : Type 0 where
+  pub run : Run StepRec
+  pub whole : run_of (hart_step R.split) R (R.end - R.base) ≡ Some run
+  pub slices : Slices R run.records kept
+
+abbrev pub Ran : Recording → Slicing → Result (Unit {0}) CutFault → Type 0
+Ran R kept (Ok u) = RunsThrough R kept
+Ran R kept (Err fault) = StopsFor R fault

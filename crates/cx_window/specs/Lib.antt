@@ -1,4 +1,4 @@
 pub mod Marks
-pub mod Progress
+pub mod Slicing
 pub mod Slice
 pub mod Cut

@@ -1,39 +1,48 @@
 -- The window that is cut from a run.
-use Rattle.std.specs.Prelude.{◌≡◌, ℕ, ◌-◌, ◌*◌, ◌^◌, ◌<◌, ◌≤◌, false, [], length, drop, slice_index_or, Some}
-use Rattle.cx_csr.specs.Keeps.{Keeps}
-use Rattle.cx_log.specs.Order.{MayEnd, at_start}
+use Rattle.std.specs.Prelude.{◌≡◌, ℕ, Bool, false, List, [], length, slice_index_or, Option, None, Some}
+use Rattle.cx_csr.specs.declared.state.State.{State}
+use Rattle.cx_log.specs.Order.{IsHeader, MayEnd, at_start}
 use Rattle.cx_log.specs.Recording.{Recording}
-use Rattle.cx_run.specs.Run.{Run, run_of}
-use Rattle.cx_run.specs.Window.{is_read, kept_pages}
-use Rattle.cx_replay.specs.HartStep.{replay_step}
-use Rattle.cx_hart.specs.Reads.{read_indices}
-use Rattle.cx_hart.specs.declared.record.StepRec.{StepRec}
-use Rattle.cx_window.specs.declared.slice.Slice.{Slice}
+use Rattle.cx_log.specs.declared.header.Header.{Header}
+use Rattle.cx_map.specs.Map.{size_of_pages}
+use Rattle.cx_run.specs.Window.{kept_pages}
+use Rattle.cx_window.specs.Slicing.{Slicing}
+
+-- What stands in front of its pages, but for their count; the step behind its last; the memory before its first step; and for
+-- each page whether its steps read it.
+pub record Sliced : Type 0 where
+  pub header : Header
+  pub to : ℕ
+  pub memory : List ℕ
+  pub marks : List Bool
+
+abbrev pub is_marked : List Bool → ℕ → Bool
+is_marked marks page = slice_index_or marks page false
 
 -- the recording that is written of it
-abbrev pub written_of : Slice → Recording
-written_of s = record { pages = s.pages; base = s.from; start = s.start; memory = kept_pages (λ k. slice_index_or s.marks.items k false) s.memory.items s.pages; events = []; end = s.to }
-
--- the slice holds the machine of R before step a, and marks the pages that the steps from a up to b read
-pub record IsCut (R : Recording) (a b : ℕ) (s : Slice) : Type 0 where
-  pub before : Run StepRec
-  pub up_to_a : run_of replay_step R (a - R.base) ≡ Some before
-  pub after : Run StepRec
-  pub up_to_b : run_of replay_step R (b - R.base) ≡ Some after
-  pub pages : s.pages ≡ R.pages
-  pub from : s.from ≡ a
-  pub to : s.to ≡ b
-  pub start : s.start ≡ before.machine.state
-  pub memory : s.memory.items ≡ before.machine.memory
-  pub count : length s.marks.items ≡ R.pages
-  pub marks : (k : ℕ) → k < R.pages → slice_index_or s.marks.items k false ≡ is_read read_indices (drop (a - R.base) after.records) k
+abbrev pub written_of : Sliced → Recording
+written_of s = record {
+  version = s.header.version;
+  split = s.header.split;
+  pages = s.header.pages;
+  base = s.header.base;
+  start = s.header.start;
+  memory = kept_pages (is_marked s.marks) s.memory s.header.pages;
+  events = [];
+  end = s.to;
+}
 
 -- what makes a slice fit to be written: its sizes, and the rules of its recording
-pub record IsWhole (s : Slice) : Type 0 where
-  pub some_pages : 0 < s.pages
-  pub most_pages : s.pages ≤ 262144
-  pub memory : length s.memory.items ≡ s.pages * 4096
-  pub marks : length s.marks.items ≡ s.pages
-  pub start : Keeps s.pages s.start
-  pub from : s.from < 2 ^ 48
-  pub to : MayEnd (at_start s.from s.start) s.to
+pub record IsWhole (s : Sliced) : Type 0 where
+  pub header : IsHeader s.header
+  pub memory : length s.memory ≡ size_of_pages s.header.pages
+  pub marks : length s.marks ≡ s.header.pages
+  pub to : MayEnd (at_start s.header.base s.header.start) s.to
+
+-- what was kept, of a recording with this header
+abbrev pub slice_of : Header → Slicing → State → Sliced
+slice_of header s start = record { header = record header { base = s.from; start = start }; to = s.to; memory = s.memory; marks = s.marks }
+
+abbrev pub option_slice_of : Header → Slicing → Option State → Option Sliced
+option_slice_of header s None = None
+option_slice_of header s (Some start) = Some (slice_of header s start)

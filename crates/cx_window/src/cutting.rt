@@ -1,35 +1,65 @@
 //! Cutting a window from a run.
 
-ghost use Rattle.std.specs.Prelude.{◌≡◌, ◌-◌, ◌*◌, ◌<◌, ◌≤◌, false, IfOk, IfSome, length};
+ghost use Rattle.std.specs.Prelude.{◌≡◌, ◌<◌, ◌≤◌, [], length};
+ghost use Rattle.cx_hart.specs.HartStep.{hart_step};
+ghost use Rattle.cx_hart.specs.Whole.{machine_of};
+ghost use Rattle.cx_log.specs.Order.{IsHeader, KeepsRules};
 ghost use Rattle.cx_log.specs.Recording.{Recording};
-ghost use Rattle.cx_window.specs.Cut.{Begins, CutsOff, CutsWindow, HasSizes, RunsThrough};
-ghost use Rattle.cx_window.specs.Progress.{machine_of};
+ghost use Rattle.cx_machine.specs.Due.{nothing_due};
+ghost use Rattle.cx_window.specs.Cut.{CutsOff, Ran, StartsWith, without_events};
+ghost use Rattle.cx_window.specs.Slicing.{Slices, SameWindow, Goes};
 
 use crate::fault::CutFault;
-use crate::marks::blank;
-use crate::progress::advance;
-use crate::slice::{Slice, copy};
+use crate::slice::Slice;
+use crate::slicer::Slicer;
 use crate::span::Span;
-use cx_hart::{Machine, Steps};
+use cx_hart::{Due, Machine, StepRec, Steps, Went};
+use cx_log::Header;
 use std::alloc::Global;
 use std::marker::Brand;
 use std::sync::ledger::{Blank, Ledger};
 
-// Carries out all steps.
+// Takes a step to which nothing is due, and tells it in the record. False exactly where it isn't carried out, and then the
+// machine stays.
+#[tactic(auto, unfolding(cx_hart::specs::HartStep::hart_step))]
+fn go_on<L: Ledger>(machine: &mut Machine, rec: &mut StepRec, steps: &mut Steps<L>) -> bool
+    requires room { 2 ≤ machine.old.spare }
+    ensures step { Goes (hart_step machine.old.split (machine_of machine.old) nothing_due) result rec.new (machine_of machine.new) }
+    ensures size { length machine.new.memory ≡ length machine.old.memory }
+    ensures split { machine.new.split ≡ machine.old.split }
+{
+    let due = Due {
+        lines: None,
+        value: None,
+    };
+    match machine.step_into(due, steps, rec) {
+        Went::Stepped => true,
+        Went::NeedsValue(_) | Went::ValueLeft => false,
+    }
+}
+
+// Carries out all steps from one up to another, and shows each to the slicer.
 fn run_through<L: Ledger>(
     machine: Machine,
-    span: Span,
+    base: u64,
+    end: u64,
+    slicer: &mut Slicer,
     steps: &mut Steps<L>,
 ) -> Result<(), CutFault>
-    requires whole { machine.split ≡ false }
-    requires some { span.base < span.end }
-    ensures steps { (R : Recording) → Begins R span (machine_of machine) → RunsThrough R result }
+    requires some { base ≤ end }
+    ensures ran { (R : Recording) → R.base ≡ base → R.end ≡ end → StartsWith R (machine_of machine) machine.split → Slices R [] slicer.old
+        → Ran R slicer.new result }
+    ensures same { SameWindow slicer.old slicer.new }
 {
     let mut machine = machine;
-    let count = span.end - span.base;
-    let done = advance(&mut machine, &mut [], count, steps)?;
-    if done < count {
-        return Err(CutFault::NeedsValue(span.base + done));
+    let mut rec = StepRec::BLANK;
+    for step in base..end {
+        slicer.see(step, &machine)?;
+        machine.reserve(2)?;
+        if !go_on(&mut machine, &mut rec, steps) {
+            return Err(CutFault::Broken(step));
+        }
+        slicer.feed(step, &rec);
     }
     Ok(())
 }
@@ -38,75 +68,44 @@ fn run_through<L: Ledger>(
 fn cut_window<L: Ledger>(
     alloc: Global,
     machine: Machine,
-    span: Span,
-    steps: &mut Steps<L>,
-) -> Result<Slice, CutFault>
-    requires whole { machine.split ≡ false }
-    requires from { span.base ≤ span.from }
-    requires some { span.from < span.to }
-    requires to { span.to ≤ span.end }
-    ensures cut { (R : Recording) → Begins R span (machine_of machine) → CutsWindow R span result }
-    ensures sizes { IfOk result (λ s. HasSizes (length machine.memory) span s) }
-{
-    let mut machine = machine;
-    let before = advance(&mut machine, &mut [], span.from - span.base, steps)?;
-    if before < span.from - span.base {
-        return Err(CutFault::NeedsValue(span.base + before));
-    }
-    let start = *machine.state();
-    let pages = machine.ram().pages();
-    let memory = copy(alloc, machine.ram())?;
-    let mut marks = blank(alloc, pages)?;
-    let within = advance(&mut machine, &mut marks, span.to - span.from, steps)?;
-    if within < span.to - span.from {
-        return Err(CutFault::NeedsValue(span.from + within));
-    }
-    let behind = advance(&mut machine, &mut [], span.end - span.to, steps)?;
-    if behind < span.end - span.to {
-        return Err(CutFault::NeedsValue(span.to + behind));
-    }
-    Ok(Slice {
-        pages,
-        from: span.from,
-        to: span.to,
-        start,
-        memory,
-        marks,
-    })
-}
-
-// Cuts the window off, and counts the steps on a ledger that starts blank.
-fn cut_counted<L: Ledger>(
-    alloc: Global,
-    machine: Machine,
+    header: &Header,
+    end: u64,
     span: Span,
     blank: Blank,
 ) -> Result<Option<Slice>, CutFault>
-    requires whole { machine.split ≡ false }
-    requires some { span.base < span.end }
+    requires header { IsHeader header.now }
+    requires rules { KeepsRules (without_events header.now machine.memory end) }
+    requires state { machine.state ≡ header.now.start }
+    requires split { machine.split ≡ header.now.split }
     requires name { blank.name ≡ L.name }
     requires parts { blank.parts ≡ L.parts }
     requires one { 0 < blank.parts }
-    ensures cut { (R : Recording) → Begins R span (machine_of machine) → CutsOff R span.from span.to result }
-    ensures sizes { IfOk result (λ o. IfSome o (λ s. HasSizes (length machine.memory) span s)) }
+    ensures { CutsOff (without_events header.now machine.memory end) span.from span.to result }
 {
     let mut steps: Steps<L> = Steps::none(blank);
-    if !span.has_window() {
-        run_through(machine, span, &mut steps)?;
+    let mut slicer = Slicer::new(alloc, header.pages, span.from, span.to)?;
+    run_through(machine, header.base, end, &mut slicer, &mut steps)?;
+    if !span.lies_in(header.base, end) {
         return Ok(None);
     }
-    let slice = cut_window(alloc, machine, span, &mut steps)?;
-    Ok(Some(slice))
+    Ok(slicer.finish(header))
 }
 
-/// Carries out all steps of a recording without events that begins with this machine, and cuts the window off where its
-/// steps are there: what is kept is the machine before its first step, and which pages its steps read. `NeedsValue` comes
-/// exactly where a step asks for a value, and names the first. `NoMemory` is free.
-pub fn cut(alloc: Global, machine: Machine, span: Span) -> Result<Option<Slice>, CutFault>
-    requires whole { machine.split ≡ false }
-    requires some { span.base < span.end }
-    ensures cut { (R : Recording) → Begins R span (machine_of machine) → CutsOff R span.from span.to result }
-    ensures sizes { IfOk result (λ o. IfSome o (λ s. HasSizes (length machine.memory) span s)) }
+/// Carries out all steps of a recording without events, which begins with this machine, has this header and ends there, and
+/// cuts off the window of these steps. It answers None exactly where the recording hasn't the window's steps, `Broken` exactly
+/// where a step isn't carried out, and names the first. `NoMemory` is free.
+pub fn cut(
+    alloc: Global,
+    machine: Machine,
+    header: &Header,
+    end: u64,
+    span: Span,
+) -> Result<Option<Slice>, CutFault>
+    requires header { IsHeader header.now }
+    requires rules { KeepsRules (without_events header.now machine.memory end) }
+    requires state { machine.state ≡ header.now.start }
+    requires split { machine.split ≡ header.now.split }
+    ensures { CutsOff (without_events header.now machine.memory end) span.from span.to result }
 {
-    cut_counted::<Brand>(alloc, machine, span, Blank::new(1))
+    cut_window::<Brand>(alloc, machine, header, end, span, Blank::new(1))
 }

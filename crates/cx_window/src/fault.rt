@@ -10,11 +10,11 @@ use thiserror::Error;
 /// Why a window could not be cut.
 #[derive(Clone, Copy, Debug, PartialEq, Eq, Error)]
 pub enum CutFault {
-    /// This step asks for a value of the outside, and none is due.
-    #[error("NeedsValue")]
-    NeedsValue(u64),
+    /// This step can't be carried out with what the recording hands to it, and each before it can.
+    #[error("broken at {0}")]
+    Broken(u64),
     /// Memory was refused.
-    #[error("NoMemory")]
+    #[error("no memory")]
     NoMemory,
 }
 

@@ -7,8 +7,8 @@
 mod cutting;
 mod fault;
 mod marks;
-mod progress;
 mod slice;
+mod slicer;
 mod span;
 
 pub use cutting::cut;

@@ -1,13 +1,12 @@
 //! Marks of the pages that steps read.
 
-ghost use Rattle.std.specs.Prelude.{◌≡◌, ℕ, ◌/◌, ◌*◌, ◌<◌, ◌==◌, ◌||◌, false, length, replicate, slice_index_or, IfOk};
+ghost use Rattle.std.specs.Prelude.{◌≡◌, ℕ, ◌/◌, ◌*◌, ◌<◌, ◌≤◌, ◌==◌, ◌||◌, false, length, replicate, slice_index_or, IfOk};
 ghost use Rattle.cx_hart.specs.Reads.{entry_indices, ram_indices, read_indices, touch_indices};
 ghost use Rattle.cx_window.specs.Marks.{AddsMarks};
 
 use cx_hart::{StepRec, Touch};
 use cx_io::NoMemory;
-use cx_log::PAGE;
-use cx_ram::RAM_START;
+use cx_map::{PAGE_SIZE, RAM_START};
 use std::alloc::Global;
 
 /// A mark for each page, none of them set.
@@ -40,8 +39,8 @@ fn mark_bytes(marks: &mut [bool], place: u32, len: u8)
     }
     let first = (place - RAM_START) as usize;
     let last = first + (len - 1) as usize;
-    mark_page(marks, first / PAGE);
-    mark_page(marks, last / PAGE);
+    mark_page(marks, first / PAGE_SIZE);
+    mark_page(marks, last / PAGE_SIZE);
 }
 
 // Marks the pages of the bytes that were read so.
@@ -66,11 +65,11 @@ fn mark_entries(marks: &mut [bool], places: &[u32])
 /// page tables.
 #[tactic(auto, unfolding(cx_hart::specs::Reads::read_indices))]
 pub(crate) fn mark_reads(marks: &mut [bool], rec: &StepRec)
+    requires { rec.now.walked ≤ 6 }
     ensures { AddsMarks marks.old marks.new (read_indices rec.now) }
 {
     mark_touch(marks, rec.fetch);
     mark_touch(marks, rec.read);
     mark_touch(marks, rec.read_more);
-    let walked = (rec.walked as usize).min(rec.places.len());
-    mark_entries(marks, &rec.places[..walked]);
+    mark_entries(marks, &rec.places[..rec.walked as usize]);
 }

@@ -1,52 +1,41 @@
 //! A window that is cut from a run, and its recording.
 
-ghost use Rattle.std.specs.Prelude.{◌≡◌, ℕ, ◌+◌, ◌*◌, ◌^◌, ◌<◌, ◌≤◌, length, Bool, false, not, ◌&&◌, slice_index_or, if◌then◌else◌, List, Option, ◌++◌, is_ok, IsTrue, IfOk, OnOk, OnErr, IsSome, vec_len, [], replicate};
+ghost use Rattle.std.specs.Prelude.{◌≡◌, ◌+◌, ◌<◌, ◌≤◌, false, not, ◌&&◌, slice_index_or, if◌then◌else◌, OnOk, OnErr, IsSome, IsTrue};
 ghost use Rattle.std.specs.Io.KnownBytes.{Appends};
 ghost use Rattle.cx_io.specs.Cause.{HasCause};
-ghost use Rattle.cx_codec.specs.Blocks.{HasFront, StandsFor};
-ghost use Rattle.cx_ram.specs.PhysicalMemory.{page_of};
-ghost use Rattle.cx_log.specs.Memory.{is_zero};
-ghost use Rattle.cx_log.specs.Recording.{Recording};
-ghost use Rattle.cx_log.specs.Text.{recording_text, page_count, page_text, pages_text};
+ghost use Rattle.cx_codec.specs.Blocks.{HasFront};
+ghost use Rattle.cx_codec.specs.Puts.{Puts, onto};
+ghost use Rattle.cx_ram.specs.PhysicalMemory.{is_zero, page_of};
+ghost use Rattle.cx_log.specs.Order.{IsHeader};
+ghost use Rattle.cx_log.specs.Text.{header_of, page_count, page_text, pages_text, recording_text};
+ghost use Rattle.cx_window.specs.Slice.{IsWhole, written_of};
 
 use cx_codec::OutFault;
-use cx_csr::State;
-use cx_io::{NoMemory, Sink};
-use cx_log::{Header, LogWriter, PAGE, is_zero_page};
-use cx_ram::Ram;
+use cx_io::Sink;
+use cx_log::{Header, LogWriter};
+use cx_map::PAGE_SIZE;
+use cx_ram::is_all_zero;
 use std::alloc::Global;
+use std::marker::Model;
 
-/// What is kept of a window until it is written.
+/// A window that is ready to be written: what stands in front of its pages, the step behind its last, the memory before its
+/// first step, and for each page whether a step of the window read a byte of it.
 #[derive(Drop)]
 pub struct Slice {
-    /// How many pages the RAM has.
-    pub pages: u32,
-    /// The window's first step.
-    pub from: u64,
-    /// The step behind its last.
-    pub to: u64,
-    /// The state of the hart before the first step.
-    pub start: State,
-    /// The memory before the first step.
-    pub memory: Vec<u8>,
-    /// For each page, whether a step of the window read a byte of it.
-    pub marks: Vec<bool>,
+    header: Header,
+    to: u64,
+    memory: Vec<u8>,
+    marks: Vec<bool>,
 }
 
-/// A copy of the bytes of RAM.
-pub(crate) fn copy(alloc: Global, ram: &Ram) -> Result<Vec<u8>, NoMemory>
-    ensures { IfOk result (λ v. v.items ≡ ram.now.memory) }
-{
-    let mut memory = Vec::new(alloc);
-    let mut bytes = [0u8; PAGE];
-    for page in 0..ram.pages() {
-        ram.page(page, &mut bytes);
-        match memory.extend_from_slice(&bytes) {
-            Ok(()) => {}
-            Err(_) => return Err(NoMemory),
-        }
-    }
-    Ok(memory)
+impl Model for Slice {
+    ghost use Rattle.cx_window.specs.Slice.{IsWhole, Sliced};
+
+    ghost Value = { Sliced };
+
+    ghost view = { λ s. record { header = s.header; to = s.to; memory = s.memory.items; marks = s.marks.items } };
+
+    ghost invariant = { λ s. IsWhole (record { header = s.header; to = s.to; memory = s.memory.items; marks = s.marks.items }) };
 }
 
 // One, where it holds.
@@ -58,15 +47,26 @@ fn one_if(holds: bool) -> u32
 }
 
 impl Slice {
-    ghost use Rattle.cx_window.specs.Slice.{written_of, IsWhole};
+    /// A slice of these parts.
+    pub(crate) fn of(header: Header, to: u64, memory: Vec<u8>, marks: Vec<bool>) -> Slice
+        requires { IsWhole (record { header = header; to = to; memory = memory.items; marks = marks.items }) }
+        ensures { result ≡ record { header = header; to = to; memory = memory.items; marks = marks.items } }
+    {
+        Slice {
+            header,
+            to,
+            memory,
+            marks,
+        }
+    }
 
     // The bytes of a page.
-    fn page(&self, page: u32) -> &[u8; PAGE]
-        requires { page * 4096 + 4096 ≤ vec_len self.now.memory }
-        ensures { result.now ≡ page_of self.now.memory.items page }
+    fn page(&self, page: u32) -> &[u8; PAGE_SIZE]
+        requires { page < self.now.header.pages }
+        ensures { result.now ≡ page_of self.now.memory page }
     {
-        let start = page as usize * PAGE;
-        match self.memory[start..start + PAGE].as_array() {
+        let start = page as usize * PAGE_SIZE;
+        match self.memory[start..start + PAGE_SIZE].as_array() {
             Some(bytes) => bytes,
             None => unreachable!(),
         }
@@ -75,26 +75,37 @@ impl Slice {
     // Whether a page is written: it was read, and isn't all zero.
     #[tactic(auto, using(std::proofs::lemmas::List::get_or_read))]
     fn keeps(&self, page: u32) -> bool
-        requires whole { IsWhole self.now }
-        requires inside { page < self.now.pages }
-        ensures { result ≡ (slice_index_or self.now.marks.items page false && not (is_zero (page_of self.now.memory.items page))) }
+        requires { page < self.now.header.pages }
+        ensures { result ≡ (slice_index_or self.now.marks page false && not (is_zero (page_of self.now.memory page))) }
     {
-        let read = self.marks[page as usize];
-        let zero = is_zero_page(self.page(page));
-        read && !zero
+        self.marks[page as usize] && !is_all_zero(self.page(page))
     }
 
     // How many pages are written.
     fn count(&self) -> u32
-        requires { IsWhole self.now }
-        ensures count { result ≡ page_count (written_of self.now).memory self.now.pages }
-        ensures within { result ≤ self.now.pages }
+        ensures count { result ≡ page_count (written_of self.now).memory self.now.header.pages }
+        ensures within { result ≤ self.now.header.pages }
     {
         let mut count = 0;
-        for page in 0..self.pages {
+        for page in 0..self.header.pages {
             count += one_if(self.keeps(page));
         }
         count
+    }
+
+    // What stands in front of the pages.
+    fn front(&self) -> Header
+        ensures header { result ≡ header_of (written_of self.now) }
+        ensures rules { IsHeader result }
+    {
+        Header {
+            version: self.header.version,
+            split: self.header.split,
+            pages: self.header.pages,
+            base: self.header.base,
+            start: self.header.start,
+            count: self.count(),
+        }
     }
 
     // Writes a page, where it is written.
@@ -105,21 +116,17 @@ impl Slice {
         sink: &mut T,
     ) -> Result<(), OutFault>
         requires whole { IsWhole self.now }
-        requires inside { page < self.now.pages }
+        requires inside { page < self.now.header.pages }
         requires live { IsTrue writer.old.output.live }
-        requires pages { writer.old.header.pages ≡ self.now.pages }
+        requires pages { writer.old.header.pages ≡ self.now.header.pages }
         requires rising { writer.old.least ≤ page }
-        requires owed { writer.old.left + page_count (written_of self.now).memory page ≡ page_count (written_of self.now).memory self.now.pages }
-        ensures told { IsSome (T.held sink.old) → IsSome (T.held sink.new) }
-        ensures stands { OnOk result ((base : Option (List ℕ)) (put : List ℕ) → StandsFor base put writer.old.output.bytes (T.held sink.old) →
-            StandsFor base (put ++ page_text (written_of self.now).memory page) writer.new.output.bytes (T.held sink.new)) }
-        ensures refused { OnErr result ((base : Option (List ℕ)) (put : List ℕ) → StandsFor base put writer.old.output.bytes (T.held sink.old) →
-            HasFront base (put ++ page_text (written_of self.now).memory page) (T.held sink.new)) }
+        requires owed { writer.old.left + page_count (written_of self.now).memory page ≡ page_count (written_of self.now).memory self.now.header.pages }
+        ensures puts { Puts OutFault.WriteFault (page_text (written_of self.now).memory page)
+            (onto writer.old.output (T.held sink.old) (T.faults sink.old)) (onto writer.new.output (T.held sink.new) (T.faults sink.new)) result }
         ensures header { writer.new.header ≡ writer.old.header }
-        ensures left { OnOk result (writer.new.left + page_count (written_of self.now).memory (page + 1) ≡ writer.old.left + page_count (written_of self.now).memory page) }
+        ensures behind { writer.new.behind ≡ writer.old.behind }
+        ensures left { OnOk result (writer.new.left + page_count (written_of self.now).memory (page + 1) ≡ page_count (written_of self.now).memory self.now.header.pages) }
         ensures next { OnOk result (writer.new.least ≤ page + 1) }
-        ensures live { writer.new.output.live ≡ is_ok result }
-        ensures cause { HasCause OutFault.WriteFault (T.faults sink.old) (T.faults sink.new) result }
     {
         if self.keeps(page) {
             return writer.page(page, self.page(page), sink);
@@ -129,42 +136,30 @@ impl Slice {
 
     // Writes the pages.
     fn put_pages<T: Sink>(&self, writer: &mut LogWriter, sink: &mut T) -> Result<(), OutFault>
-        requires whole { IsWhole self.now }
         requires live { IsTrue writer.old.output.live }
-        requires pages { writer.old.header.pages ≡ self.now.pages }
+        requires pages { writer.old.header.pages ≡ self.now.header.pages }
         requires first { writer.old.least ≡ 0 }
-        requires owed { writer.old.left ≡ page_count (written_of self.now).memory self.now.pages }
-        ensures told { IsSome (T.held sink.old) → IsSome (T.held sink.new) }
-        ensures stands { OnOk result ((base : Option (List ℕ)) (put : List ℕ) → StandsFor base put writer.old.output.bytes (T.held sink.old) →
-            StandsFor base (put ++ pages_text (written_of self.now).memory self.now.pages) writer.new.output.bytes (T.held sink.new)) }
-        ensures refused { OnErr result ((base : Option (List ℕ)) (put : List ℕ) → StandsFor base put writer.old.output.bytes (T.held sink.old) →
-            HasFront base (put ++ pages_text (written_of self.now).memory self.now.pages) (T.held sink.new)) }
-        ensures header { writer.new.header ≡ writer.old.header }
+        requires owed { writer.old.left ≡ page_count (written_of self.now).memory self.now.header.pages }
+        ensures puts { Puts OutFault.WriteFault (pages_text (written_of self.now).memory self.now.header.pages)
+            (onto writer.old.output (T.held sink.old) (T.faults sink.old)) (onto writer.new.output (T.held sink.new) (T.faults sink.new)) result }
+        ensures behind { writer.new.behind ≡ writer.old.behind }
         ensures left { OnOk result (writer.new.left ≡ 0) }
-        ensures live { writer.new.output.live ≡ is_ok result }
-        ensures cause { HasCause OutFault.WriteFault (T.faults sink.old) (T.faults sink.new) result }
     {
-        for page in 0..self.pages {
+        for page in 0..self.header.pages {
             self.put_page(page, writer, sink)?;
         }
         Ok(())
     }
 
-    /// Writes the recording of the window. After a refusal the sink holds a front of it.
+    /// Writes the recording of the window. `WriteFault` comes only where the sink's count of faults rose, and `NoMemory` where
+    /// memory is refused, here or by the sink. After a refusal the sink holds a front of the recording.
     pub fn write<T: Sink>(&self, alloc: Global, sink: &mut T) -> Result<(), OutFault>
-        requires { IsWhole self.now }
         ensures told { IsSome (T.held sink.old) → IsSome (T.held sink.new) }
         ensures written { OnOk result (Appends (T.held sink.old) (T.held sink.new) (recording_text (written_of self.now))) }
         ensures refused { OnErr result (HasFront (T.held sink.old) (recording_text (written_of self.now)) (T.held sink.new)) }
         ensures cause { HasCause OutFault.WriteFault (T.faults sink.old) (T.faults sink.new) result }
     {
-        let header = Header {
-            pages: self.pages,
-            base: self.from,
-            start: self.start,
-            count: self.count(),
-        };
-        let mut writer = LogWriter::start(alloc, &header, sink)?;
+        let mut writer = LogWriter::start(alloc, &self.front(), sink)?;
         self.put_pages(&mut writer, sink)?;
         writer.end(self.to, sink)
     }

@@ -1,25 +1,21 @@
-//! The steps of a recording, and a window of them.
+//! The steps of a window.
 
 ghost use Rattle.std.specs.Prelude.{◌≡◌, nat_le, nat_lt, ◌&&◌};
 
-/// The steps of a recording, and the window that is wanted of them.
+/// The steps from one up to but not including another.
 #[derive(Clone, Copy, Debug, PartialEq, Eq)]
 pub struct Span {
-    /// The recording's first step.
-    pub base: u64,
-    /// The step behind its last.
-    pub end: u64,
-    /// The window's first step.
+    /// The first step.
     pub from: u64,
-    /// The step behind its last.
+    /// The step behind the last.
     pub to: u64,
 }
 
 impl Span {
-    /// Whether the window's steps are there.
-    pub(crate) fn has_window(&self) -> bool
-        ensures { result ≡ (nat_le self.now.base self.now.from && nat_lt self.now.from self.now.to && nat_le self.now.to self.now.end) }
+    /// Whether a run from one step up to another has these steps, of which there is one at least.
+    pub(crate) fn lies_in(&self, base: u64, end: u64) -> bool
+        ensures { result ≡ (nat_le base self.now.from && nat_lt self.now.from self.now.to && nat_le self.now.to end) }
     {
-        self.base <= self.from && self.from < self.to && self.to <= self.end
+        base <= self.from && self.from < self.to && self.to <= end
     }
 }

@@ -1,3 +1,4 @@
-mod ParseLemmas
+mod Counts
 mod Digits
+mod QueryCounts
 mod Spelled

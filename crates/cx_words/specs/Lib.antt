@@ -1,2 +1,4 @@
+pub mod Arguments
 pub mod Number
 pub mod Parse
+pub mod Queries

@@ -5,8 +5,10 @@
 //! takes no memory.
 #![tactic(auto)]
 
+mod arguments;
 mod command;
 mod number;
+mod queries;
 mod spelling;
 #[cfg(test)]
 mod tests;

@@ -31,8 +31,12 @@ fn a_page_is_filled(rt: HostRuntime) -> Result<(), Fail> {
     let mut machine = two_pages(&rt, rt.alloc())?;
     let before = *machine.state();
     assert_eq!(rt; machine.ram().pages(), 2);
-    assert!(rt; machine.ram().is_zero(0) && machine.ram().is_zero(1));
-    assert!(rt; machine.reserve(2).is_ok());
+    assert!(rt; machine.ram().is_zero(0));
+    assert!(rt; machine.ram().is_zero(1));
+    match machine.reserve(2) {
+        Ok(()) => {}
+        Err(_) => panic!(rt; "no memory"),
+    }
     let mut page = [7; 4096];
     page[4095] = 9;
     machine.fill(1, &page);
@@ -40,7 +44,10 @@ fn a_page_is_filled(rt: HostRuntime) -> Result<(), Fail> {
     assert_eq!(rt; machine.ram().load(0x8000_1000, 4), 0x0707_0707);
     assert_eq!(rt; machine.ram().load(0x8000_1ffe, 2), 0x0907);
     assert_eq!(rt; *machine.state(), before);
-    assert!(rt; machine.reserve(2).is_ok());
+    match machine.reserve(2) {
+        Ok(()) => {}
+        Err(_) => panic!(rt; "no memory"),
+    }
     machine.dma(0x8000_0fff, &[1, 2]);
     assert_eq!(rt; machine.ram().load(0x8000_0fff, 1), 1);
     assert_eq!(rt; machine.ram().load(0x8000_1000, 2), 0x0702);

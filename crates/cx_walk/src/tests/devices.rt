@@ -3,11 +3,14 @@
 use crate::tests::KINDS;
 use crate::tests::view::{memory, state_in, walked};
 use crate::{DeviceWord, Kind, Place};
+use cx_csr::causes::STORE_ACCESS_FAULT;
+use cx_csr::modes::MACHINE;
+use cx_map::RAM_START;
 
 #[test]
-fn finds_device_words(rt: HostRuntime) {
+fn each_word_of_the_devices_is_reached_by_whole_loads_and_stores_alone(rt: HostRuntime) {
     let view = memory(&[]);
-    let machine = state_in(3, 0);
+    let machine = state_in(MACHINE, 0);
     let words = [
         (DeviceWord::Power, 0x0010_0000),
         (DeviceWord::SoftwareInterrupt, 0x0200_0000),
@@ -46,11 +49,11 @@ fn finds_device_words(rt: HostRuntime) {
         0x0200_0004,
         0x0c00_000c,
         0x1000_1014,
-        0x8000_5000,
+        RAM_START + 0x5000,
         0xffff_fffc,
     ];
     for place in others {
         let walk = walked(&rt, &view, &machine, Kind::Store, place, 4);
-        assert_eq!(rt; walk.answer, Err(7), "{place:x}");
+        assert_eq!(rt; walk.answer, Err(STORE_ACCESS_FAULT), "{place:x}");
     }
 }

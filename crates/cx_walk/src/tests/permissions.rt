@@ -4,49 +4,78 @@ use crate::tests::KINDS;
 use crate::tests::tables::ended;
 use crate::tests::view::{memory, state_in, walked};
 use crate::{Kind, Place};
+use cx_csr::fields::SATP_MODE;
+use cx_csr::modes::{MACHINE, SUPERVISOR, USER};
+use cx_csr::status;
+use cx_map::{PAGE_SIZE, RAM_START};
 
-const MPRV: u32 = 1 << 17;
+// satp with the first page of RAM as the root, with translation off and on.
+const OFF: u32 = RAM_START / PAGE_SIZE as u32;
 
-const SUM: u32 = 1 << 18;
+const ON: u32 = 1 << SATP_MODE | OFF;
 
-const MXR: u32 = 1 << 19;
+const MPRV: u32 = 1 << status::MPRV;
+
+const SUM: u32 = 1 << status::SUM;
+
+const MXR: u32 = 1 << status::MXR;
 
 #[test]
-fn permits_by_the_flags(rt: HostRuntime) {
+fn a_leaf_permits_what_its_flags_and_mstatus_say(rt: HostRuntime) {
     // The mode, mstatus and the flags D, A, G, U, X, W, R and V of a leaf, and whether it permits each of the kinds.
     let cases = [
-        (0, 0, 0b1101_0011, [false, true, false, true, false]),
-        (0, 0, 0b1101_1001, [true, false, false, false, false]),
-        (0, MXR, 0b1101_1001, [true, true, false, true, false]),
-        (0, 0, 0b1101_0111, [false, true, true, true, true]),
-        (0, 0, 0b1101_1111, [true, true, true, true, true]),
-        (0, 0, 0b1111_1111, [true, true, true, true, true]),
-        (0, 0, 0b0101_1111, [true, true, false, true, false]),
+        (USER, 0, 0b1101_0011, [false, true, false, true, false]),
+        (USER, 0, 0b1101_1001, [true, false, false, false, false]),
+        (USER, MXR, 0b1101_1001, [true, true, false, true, false]),
+        (USER, 0, 0b1101_0111, [false, true, true, true, true]),
+        (USER, 0, 0b1101_1111, [true, true, true, true, true]),
+        (USER, 0, 0b1111_1111, [true, true, true, true, true]),
+        (USER, 0, 0b0101_1111, [true, true, false, true, false]),
         // W without R; no R, W or X; no V; no A
-        (0, 0, 0b1101_0101, [false, false, false, false, false]),
-        (0, MXR, 0b1101_1101, [false, false, false, false, false]),
-        (0, 0, 0b1101_0001, [false, false, false, false, false]),
-        (0, 0, 0b0000_0001, [false, false, false, false, false]),
-        (0, 0, 0b1101_1110, [false, false, false, false, false]),
-        (0, 0, 0b1001_1111, [false, false, false, false, false]),
+        (USER, 0, 0b1101_0101, [false, false, false, false, false]),
+        (USER, MXR, 0b1101_1101, [false, false, false, false, false]),
+        (USER, 0, 0b1101_0001, [false, false, false, false, false]),
+        (USER, 0, 0b0000_0001, [false, false, false, false, false]),
+        (USER, 0, 0b1101_1110, [false, false, false, false, false]),
+        (USER, 0, 0b1001_1111, [false, false, false, false, false]),
         // the pages of the other mode
-        (0, SUM, 0b1100_1111, [false, false, false, false, false]),
-        (1, 0, 0b1100_1111, [true, true, true, true, true]),
-        (1, MPRV, 0b1101_1111, [false, false, false, false, false]),
-        (1, SUM, 0b1101_1111, [false, true, true, true, true]),
-        (1, SUM, 0b1101_1001, [false, false, false, false, false]),
-        (1, SUM | MXR, 0b1101_1001, [false, true, false, true, false]),
+        (USER, SUM, 0b1100_1111, [false, false, false, false, false]),
+        (SUPERVISOR, 0, 0b1100_1111, [true, true, true, true, true]),
+        (
+            SUPERVISOR,
+            MPRV,
+            0b1101_1111,
+            [false, false, false, false, false],
+        ),
+        (
+            SUPERVISOR,
+            SUM,
+            0b1101_1111,
+            [false, true, true, true, true],
+        ),
+        (
+            SUPERVISOR,
+            SUM,
+            0b1101_1001,
+            [false, false, false, false, false],
+        ),
+        (
+            SUPERVISOR,
+            SUM | MXR,
+            0b1101_1001,
+            [false, true, false, true, false],
+        ),
     ];
     for (mode, mstatus, flags, permitted) in cases {
         let view = memory(&[
-            (0x8000_0000, 0x2000_0401),
-            (0x8000_1000, 0x2000_0c00 | flags),
+            (RAM_START, 0x2000_0401),
+            (RAM_START + 0x1000, 0x2000_0c00 | flags),
         ]);
         let state = state_in(mode, mstatus);
         for ((kind, page_fault, _), permits) in KINDS.iter().zip(&permitted) {
             let answer = walked(&rt, &view, &state, *kind, 0, 4).answer;
             let wanted = if *permits {
-                Ok(Place::Ram(0x8000_3000))
+                Ok(Place::Ram(RAM_START + 0x3000))
             } else {
                 Err(*page_fault)
             };
@@ -56,21 +85,21 @@ fn permits_by_the_flags(rt: HostRuntime) {
 }
 
 #[test]
-fn translates_by_the_mode(rt: HostRuntime) {
-    let view = memory(&[(0x8000_0000, 0x2000_0401), (0x8000_1000, 0x2000_0cdf)]);
+fn an_access_is_translated_with_the_privilege_of_its_mode(rt: HostRuntime) {
+    let view = memory(&[(RAM_START, 0x2000_0401), (RAM_START + 0x1000, 0x2000_0cdf)]);
     // The addresses that a fetch and an access to data get for address 0, which the table gives to user mode alone.
     let own = Some(0);
-    let given = Some(0x8000_3000);
+    let given = Some(RAM_START as u64 + 0x3000);
     let cases = [
-        (3, 0, 0x8008_0000, own, own),
-        (1, 0, 0x0008_0000, own, own),
-        (0, 0, 0x7fff_ffff, own, own),
+        (MACHINE, 0, ON, own, own),
+        (SUPERVISOR, 0, OFF, own, own),
+        (USER, 0, !(1 << SATP_MODE), own, own),
         // MPRV with each mode in MPP, and below machine mode
-        (3, MPRV, 0x8008_0000, own, given),
-        (3, MPRV | 0x0800, 0x8008_0000, own, None),
-        (3, MPRV | 0x1800, 0x8008_0000, own, own),
-        (3, MPRV, 0x0008_0000, own, own),
-        (0, MPRV | 0x0800, 0x8008_0000, given, given),
+        (MACHINE, MPRV, ON, own, given),
+        (MACHINE, MPRV | 1 << status::MPP, ON, own, None),
+        (MACHINE, MPRV | 3 << status::MPP, ON, own, own),
+        (MACHINE, MPRV, OFF, own, own),
+        (USER, MPRV | 1 << status::MPP, ON, given, given),
     ];
     for (mode, mstatus, satp, fetched, accessed) in cases {
         let mut state = state_in(mode, mstatus);
@@ -86,7 +115,14 @@ fn translates_by_the_mode(rt: HostRuntime) {
         }
     }
     assert_eq!(rt;
-        walked(&rt, &view, &state_in(3, 0), Kind::Store, 0x8000_4ffe, 2),
-        ended([0, 0], Ok(0x8000_4ffe))
+        walked(
+            &rt,
+            &view,
+            &state_in(MACHINE, 0),
+            Kind::Store,
+            RAM_START + 0x4ffe,
+            2
+        ),
+        ended([0, 0], Ok(RAM_START + 0x4ffe))
     );
 }

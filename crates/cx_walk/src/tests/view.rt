@@ -1,16 +1,24 @@
 //! RAM of five pages, and a state to translate in.
 
 ghost use Rattle.std.specs.Prelude.{◌≡◌, ◌+◌, ◌^◌, ◌≤◌, OnSome, length};
-ghost use Rattle.cx_walk.specs.Bytes.{ram_bytes, word_at};
+ghost use Rattle.cx_walk.specs.Bytes.{ram_bytes, word_in};
 
 use crate::{Kind, Walk, Words, translate};
+use cx_csr::fields::SATP_MODE;
 use cx_csr::{CsrFile, Lines, State};
+use cx_map::{PAGE_SIZE, RAM_START};
 use std::process::Abort;
+
+/// How many pages RAM has here.
+const PAGES: u32 = 5;
+
+/// How many bytes they have.
+const SIZE: usize = PAGES as usize * PAGE_SIZE;
 
 /// Five pages of RAM.
 #[derive(Drop)]
 pub struct FivePages {
-    bytes: [u8; 0x5000],
+    bytes: [u8; SIZE],
 }
 
 impl Words for FivePages {
@@ -19,7 +27,7 @@ impl Words for FivePages {
     ghost bytes = { λ memory. ram_bytes memory.bytes };
 
     fn pages(&self) -> u32 {
-        5
+        PAGES
     }
 
     fn word(&self, pa: u64) -> Option<u32> {
@@ -30,13 +38,13 @@ impl Words for FivePages {
 #[tactic(auto, using(crate::proofs::RamWord::ram_word_at, crate::proofs::RamWord::ram_word_before, crate::proofs::RamWord::ram_word_past))]
 fn word_of(ram: &[u8], pa: u64) -> Option<u32>
     requires { length ram.now ≤ 2 ^ 31 }
-    ensures word { result ≡ word_at (ram_bytes ram.now) pa }
+    ensures word { result ≡ word_in (ram_bytes ram.now) pa }
     ensures below { OnSome result (pa + 4 ≤ 2 ^ 32) }
 {
-    if pa < 0x8000_0000 {
+    if pa < RAM_START as u64 {
         return None;
     }
-    let at = (pa - 0x8000_0000) as usize;
+    let at = (pa - RAM_START as u64) as usize;
     if ram.len() < 4 || ram.len() - 4 < at {
         return None;
     }
@@ -45,7 +53,7 @@ fn word_of(ram: &[u8], pa: u64) -> Option<u32>
 
 // RAM with these words.
 pub fn memory(words: &[(u32, u32)]) -> FivePages {
-    let mut bytes = [0; 0x5000];
+    let mut bytes = [0; SIZE];
     for (place, word) in words {
         put(&mut bytes, *place, *word);
     }
@@ -53,8 +61,8 @@ pub fn memory(words: &[(u32, u32)]) -> FivePages {
 }
 
 fn put(ram: &mut [u8], place: u32, word: u32) {
-    let at = (place & 0x7fff_ffff) as usize;
-    if let Some(bytes) = ram.get_mut(at..at + 4) {
+    let at = place.wrapping_sub(RAM_START) as usize;
+    if let Some(bytes) = ram.get_mut(at..at.saturating_add(4)) {
         bytes.copy_from_slice(&word.to_le_bytes());
     }
 }
@@ -79,7 +87,7 @@ pub fn state_in(mode: u8, mstatus: u32) -> State {
         sepc: 0,
         scause: 0,
         stval: 0,
-        satp: 0x8008_0000,
+        satp: 1 << SATP_MODE | RAM_START / PAGE_SIZE as u32,
         mcycle: 0,
         minstret: 0,
     };

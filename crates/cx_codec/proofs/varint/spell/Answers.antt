@@ -10,4 +10,5 @@ loop-rest-preserved c = record {
 }
 
 pub returns-clause-spelled : goal.returns-clause-spelled
-returns-clause-spelled c = all_spelled _ _ _ _ c.loop-rest.invariant.spelled c.loop-rest-test.false c.loop-rest.invariant.whole
+returns-clause-spelled c =
+    all_spelled _ _ _ _ c.loop-rest.invariant.spelled c.loop-rest-test.false c.loop-rest.invariant.whole

@@ -3,6 +3,5 @@ use Rattle.cx_ram.proofs.ram.Ram.page_bytes.Goals as goal
 
 pub returns : goal.returns
 returns c =
-    let len : 4096 * c.args.page + 4096 - 4096 * c.args.page ≡ 4096 = omega arith in
-    let place : 4096 * c.args.page ≡ c.args.page * 4096 = omega arith in
-    rw (← place, c.in-Some.ensures.cases.same, len, c.deref.ensures.value, ← c.self.view_is) refl
+    let len : c.args.page * 4096 + 4096 - c.args.page * 4096 ≡ 4096 = omega arith in
+    rw (c.in-Some.ensures.cases.same, len, c.deref.ensures.value, ← c.self.view_is) refl

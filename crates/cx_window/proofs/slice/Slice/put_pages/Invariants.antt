@@ -1,5 +1,6 @@
-use Rattle.std.proofs.Common.{◌≡◌, ℕ, ◌+◌, ◌^◌, ◌<◌, ◌≤◌, ◌++◌, List, Option, IsSome, IsTrue}
-use Rattle.cx_codec.specs.Blocks.{StandsFor}
+use Rattle.std.proofs.Common.{◌≡◌, ◌+◌, ◌≤◌, Ok}
+use Rattle.cx_codec.specs.declared.fault.OutFault.TheVariants.{WriteFault}
+use Rattle.cx_codec.specs.Puts.{Puts, onto}
 use Rattle.cx_log.specs.Text.{page_count, pages_text}
 use Rattle.cx_window.specs.Slice.{written_of}
 use Rattle.cx_window.proofs.slice.Slice.put_pages.Given as goal
@@ -9,12 +10,10 @@ invariant-loop-page g l =
     let held = g.T.Sink.held in
     let faults = g.T.Sink.faults in
     record {
-      live : IsTrue l.writer.output.live;
+      puts : Puts {X = Unit {0}} WriteFault (pages_text (written_of l.self).memory l.page)
+          (onto l.fn.writer.output (held l.fn.sink) (faults l.fn.sink)) (onto l.writer.output (held l.sink) (faults l.sink)) (Ok (tt {0}));
       header : l.writer.header ≡ l.fn.writer.header;
+      behind : l.writer.behind ≡ l.fn.writer.behind;
       least : l.writer.least ≤ l.page;
-      left : l.writer.left + page_count (written_of l.self).memory l.page ≡ page_count (written_of l.self).memory l.self.pages;
-      told : IsSome (held l.fn.sink) → IsSome (held l.sink);
-      stands : (base : Option (List ℕ)) (put : List ℕ) → StandsFor base put l.fn.writer.output.bytes (held l.fn.sink) → StandsFor base (put ++ pages_text (written_of l.self).memory l.page) l.writer.output.bytes (held l.sink);
-      later : faults l.fn.sink ≤ faults l.sink;
-      small : faults l.fn.sink < 2 ^ 64 → faults l.sink < 2 ^ 64;
+      left : l.writer.left + page_count (written_of l.self).memory l.page ≡ page_count (written_of l.self).memory l.self.header.pages;
     }

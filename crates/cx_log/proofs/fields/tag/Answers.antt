@@ -1,0 +1,19 @@
+use Rattle.std.proofs.lemmas.Result.{err_from_is_err_and}
+use Rattle.std.proofs.Common.{refl, ap}
+use Rattle.cx_codec.specs.Reads.{BadAt}
+use Rattle.cx_log.proofs.Checked.{met_same, checked_fails, checked_passes, checked_breaks}
+use Rattle.std.proofs.lemmas.Bool.{lt-ltb, le-ltb}
+use Rattle.cx_log.proofs.fields.tag.Goals as goal
+
+pub returns-in_err-tag-clause-reads : goal.returns-in_err-tag-clause-reads
+returns-in_err-tag-clause-reads g c told =
+    let p = err_from_is_err_and c.from_residual.result c.from_residual.ensures.1 in
+    rw (p.1, p.2) (checked_fails _ (met_same _) (c.in_err-tag.ensures.reads told))
+
+pub returns-then-tag-ge5-clause-reads : goal.returns-then-tag-ge5-clause-reads
+returns-then-tag-ge5-clause-reads g c told =
+    rw c.refuse.ensures (checked_breaks _ (le-ltb _ 5 c.if-tag-ge5.true) (ap BadAt c.at-start.ensures.at) (c.in_ok-tag.ensures.reads told))
+
+pub returns-clause-reads : goal.returns-clause-reads
+returns-clause-reads g c told =
+    checked_passes _ (lt-ltb _ 5 c.if-tag-ge5.false) refl (c.in_ok-tag.ensures.reads told)

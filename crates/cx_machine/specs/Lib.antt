@@ -1,0 +1,4 @@
+pub mod Machine
+pub mod Transfers
+pub mod Due
+pub mod Step

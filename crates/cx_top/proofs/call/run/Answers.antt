@@ -1,0 +1,4 @@
+use Rattle.cx_top.proofs.call.run.Goals as goal
+
+pub returns-in-Some-Window-clause-answer : goal.returns-in-Some-Window-clause-answer
+returns-in-Some-Window-clause-answer g c = rw (← c.in-Some-Window.ensures, c.in-Some-Window.field-0-is) c.window.ensures.answer

@@ -1,0 +1,1 @@
+"""Cases by topic: each file has a list CASES."""

@@ -1,0 +1,31 @@
+"""What the program takes today. Cases that depend on it ask here, so a new program is met by changing this file."""
+from statuses import broken, done, not_built
+
+# Whether records other than End are read: Dma, Lines, Value and Mark.
+READS_EVENTS = False
+
+# Whether a recording of version 2 is read. A program that doesn't takes its first 0 for a bad count of pages.
+READS_VERSION_2 = True
+
+# Whether a step that asks for a value and has none is called broken, and not one that isn't built.
+CALLS_MISSING_VALUES_BROKEN = True
+
+
+def without_value(step):
+    """The status where this step asks for a value of the outside, and there is none."""
+    return broken(step) if CALLS_MISSING_VALUES_BROKEN else not_built(step)
+
+
+def at_events(base, status):
+    """The status of an input whose first record is whole and isn't End: the one that is given, once events are read."""
+    return status if READS_EVENTS else not_built(base)
+
+
+def at_version_2(status, version_1):
+    """The status of an input whose first number is 0: of version 2, or as a version 1 whose first field is bad."""
+    return status if READS_VERSION_2 else version_1
+
+
+def what_is_written(status, recording):
+    """The output that goes with a status: none where it isn't done."""
+    return recording if status == done else None
