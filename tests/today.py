@@ -2,7 +2,7 @@
 from statuses import broken, done, not_built
 
 # Whether records other than End are read: Dma, Lines, Value and Mark.
-READS_EVENTS = False
+READS_EVENTS = True
 
 # Whether a recording of version 2 is read. A program that doesn't takes its first 0 for a bad count of pages.
 READS_VERSION_2 = True

@@ -1,6 +1,6 @@
-//! A measure of the step: one loop of computation, loads, stores, branches and a jump, taken for so many steps in machine
-//! mode, or in user mode behind page tables. It prints where the hart ends and what the records of the steps told, so that
-//! a run is a test too; how long a run takes is measured from outside.
+//! A measure of the step: one loop of computation, loads, stores, branches and a jump, taken for so many steps in
+//! machine mode, or in user mode behind page tables. It prints where the hart ends and what the records of the steps
+//! told, so that a run is a test too; how long a run takes is measured from outside.
 #![tactic(auto)]
 
 mod course;

@@ -1,5 +1,5 @@
-//! What stands in RAM when the course begins: the code in the first page, the data in the second, and the page tables in
-//! the two behind it (RISC-V Unprivileged ISA 20191213, 2; Privileged Architecture 1.12, 4.3).
+//! What stands in RAM when the course begins: the code in the first page, the data in the second, and the page tables
+//! in the two behind it (RISC-V Unprivileged ISA 20191213, 2; Privileged Architecture 1.12, 4.3).
 
 /// How many pages RAM has.
 pub const PAGES: u32 = 4;

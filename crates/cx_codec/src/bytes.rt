@@ -1,6 +1,8 @@
 //! Reading fields from a source.
 
-ghost use Rattle.std.specs.Prelude.{◌≡◌, ◌+◌, ◌^◌, ◌<◌, ◌≤◌, [], length, true, false, IfOk, OnOk, IsSome, IsTrue};
+ghost use Rattle.std.specs.Bool.{OnTrue};
+ghost use Rattle.std.specs.Prelude.{◌≡◌, ◌+◌, ◌^◌, ◌<◌, ◌≤◌, [], length, true, false, unwrap_or, IfOk, OnOk, IsSome};
+ghost use Rattle.std.specs.Prelude.{IsTrue};
 ghost use Rattle.cx_codec.specs.Fault.{bytes_met};
 ghost use Rattle.cx_codec.specs.Reads.{Asks, Ends, Goes, Reads, always, front_of, over};
 ghost use Rattle.cx_codec.specs.Fields.{bytes_at, byte_at, word_at, varint_bytes_at, varint_at, end_at};
@@ -188,14 +190,16 @@ impl Bytes {
         Ok(varint::LONGEST)
     }
 
-    /// Whether the input ends here. No byte is taken, and the source is asked only where none waits. `Bad` comes
-    /// exactly where a byte stands at the limit, and tells that offset. `ReadFault` comes only where the source's count
-    /// of faults rose.
+    /// Whether the input ends here: the source has nothing left then. No byte is taken, and the source is asked only
+    /// where none waits. `Bad` comes exactly where a byte stands at the limit, and tells that offset. `ReadFault` comes
+    /// only where the source's count of faults rose.
     pub fn at_end<S: Source>(&mut self, source: &mut S) -> Result<bool, BytesFault>
         requires { IsTrue self.old.live }
         ensures ends { IsSome (S.left source.old) → Ends bytes_met (λ b. b) true end_at
             (over self.old (S.left source.old) (S.given source.old))
             (over self.new (S.left source.new) (S.given source.new)) result }
+        ensures spent { IsSome (S.left source.old)
+            → IfOk result (λ last. OnTrue last (unwrap_or (S.left source.new) [] ≡ [])) }
         ensures asks { 0 < length self.old.ready → source.new ≡ source.old }
         ensures goes { Goes BytesFault.ReadFault self.old self.new (S.faults source.old) (S.faults source.new) result }
         ensures at { self.new.at ≡ self.old.at }

@@ -1,5 +1,6 @@
 -- Which accesses to control and status registers are legal, and what a legal one does.
-use Rattle.std.specs.Prelude.{ℕ, ◌/◌, ◌%◌, ◌^◌, ◌<◌, Bool, false, not, ◌==◌, ◌&&◌, ◌||◌, nat_lt, if◌then◌else◌, is_none, Option, None, Some}
+use Rattle.std.specs.Prelude.{ℕ, ◌/◌, ◌%◌, ◌^◌, ◌<◌, Bool, false, not, ◌==◌, ◌&&◌, ◌||◌, nat_lt, if◌then◌else◌, is_none}
+use Rattle.std.specs.Prelude.{Option, None, Some}
 use Rattle.cx_csr.specs.declared.state.State.{State}
 use Rattle.cx_csr.specs.declared.access.Csr.{Csr}
 use Rattle.cx_csr.specs.declared.access.Csr.TheVariants.{Value, Illegal}
@@ -10,7 +11,8 @@ use Rattle.cx_csr.specs.Table.{register_at, is_from}
 use Rattle.cx_csr.specs.Values.{read_as, csr_written}
 use Rattle.cx_csr.specs.declared.interrupts.TheConstants.{SEI}
 use Rattle.cx_csr.specs.declared.modes.TheConstants.{USER, SUPERVISOR, MACHINE}
-use Rattle.cx_csr.specs.declared.numbers.TheConstants.{CSR_SATP, CSR_MIP, CSR_CYCLE, CSR_HPMCOUNTER31, CSR_CYCLEH, CSR_HPMCOUNTER31H}
+use Rattle.cx_csr.specs.declared.numbers.TheConstants.{CSR_SATP, CSR_MIP, CSR_CYCLE, CSR_HPMCOUNTER31, CSR_CYCLEH}
+use Rattle.cx_csr.specs.declared.numbers.TheConstants.{CSR_HPMCOUNTER31H}
 use Rattle.cx_csr.specs.declared.status.TheConstants.{TVM}
 
 -- Bits 9:8 of a number are the least mode that may use it, and bits 11:10 are 3 where it is read only (section 2.1).

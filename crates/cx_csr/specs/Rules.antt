@@ -1,6 +1,7 @@
 -- What each word of a state may be. A word obeys its rule where a write to its register could have left it there
 -- (Privileged 1.12: the fields of each register, with the bits that this hart hasn't always 0).
-use Rattle.std.specs.Prelude.{◌≡◌, ◌≢◌, ℕ, zero, suc, Bool, not, nat_lt, nat_le, ◌==◌, ◌&&◌, ◌+◌, ◌-◌, ◌%◌, ◌^◌, ◌<◌, ◌≤◌, List, [], ◌∷◌, ◌++◌, replicate, slice_index, slice_index_or}
+use Rattle.std.specs.Prelude.{◌≡◌, ◌≢◌, ℕ, zero, suc, Bool, not, nat_lt, nat_le, ◌==◌, ◌&&◌, ◌+◌, ◌-◌, ◌%◌, ◌^◌, ◌<◌}
+use Rattle.std.specs.Prelude.{◌≤◌, List, [], ◌∷◌, ◌++◌, replicate, slice_index, slice_index_or}
 use Rattle.std.specs.Int.RustNames.{bit_and}
 use Rattle.cx_csr.specs.declared.rules.Rule.{Rule}
 use Rattle.cx_csr.specs.declared.rules.Rule.TheVariants.{Any, Aligned, Within, Mode, Status, Flag, Place}

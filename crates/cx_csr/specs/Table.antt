@@ -1,8 +1,24 @@
 -- The control and status registers that this hart has, by number (Privileged 1.12, section 2.2).
 use Rattle.std.specs.Prelude.{ℕ, Bool, ◌==◌, ◌&&◌, ◌||◌, nat_le, if◌then◌else◌, Option, None, Some}
 use Rattle.cx_csr.specs.declared.register.Register.{Register}
-use Rattle.cx_csr.specs.declared.register.Register.TheVariants.{Sstatus, Sie, Stvec, Scounteren, Sscratch, Sepc, Scause, Stval, Sip, Satp, Mstatus, Misa, Medeleg, Mideleg, Mie, Mtvec, Mcounteren, Mscratch, Mepc, Mcause, Mtval, Mip, Mcycle, Mcycleh, Minstret, Minstreth, Cycle, Cycleh, Time, Timeh, Instret, Instreth, NoEffect}
-use Rattle.cx_csr.specs.declared.numbers.TheConstants.{CSR_SSTATUS, CSR_SIE, CSR_STVEC, CSR_SCOUNTEREN, CSR_SENVCFG, CSR_SSCRATCH, CSR_SEPC, CSR_SCAUSE, CSR_STVAL, CSR_SIP, CSR_SATP, CSR_MSTATUS, CSR_MISA, CSR_MEDELEG, CSR_MIDELEG, CSR_MIE, CSR_MTVEC, CSR_MCOUNTEREN, CSR_MENVCFG, CSR_MSTATUSH, CSR_MENVCFGH, CSR_MCOUNTINHIBIT, CSR_MHPMEVENT3, CSR_MHPMEVENT31, CSR_MSCRATCH, CSR_MEPC, CSR_MCAUSE, CSR_MTVAL, CSR_MIP, CSR_PMPCFG0, CSR_PMPCFG3, CSR_PMPADDR0, CSR_PMPADDR15, CSR_MCYCLE, CSR_MINSTRET, CSR_MHPMCOUNTER3, CSR_MHPMCOUNTER31, CSR_MCYCLEH, CSR_MINSTRETH, CSR_MHPMCOUNTER3H, CSR_MHPMCOUNTER31H, CSR_MVENDORID, CSR_MCONFIGPTR, CSR_CYCLE, CSR_TIME, CSR_INSTRET, CSR_HPMCOUNTER3, CSR_HPMCOUNTER31, CSR_CYCLEH, CSR_TIMEH, CSR_INSTRETH, CSR_HPMCOUNTER3H, CSR_HPMCOUNTER31H}
+use Rattle.cx_csr.specs.declared.register.Register.TheVariants.{Sstatus, Sie, Stvec, Scounteren, Sscratch, Sepc, Scause}
+use Rattle.cx_csr.specs.declared.register.Register.TheVariants.{Stval, Sip, Satp, Mstatus, Misa, Medeleg, Mideleg, Mie}
+use Rattle.cx_csr.specs.declared.register.Register.TheVariants.{Mtvec, Mcounteren, Mscratch, Mepc, Mcause, Mtval, Mip}
+use Rattle.cx_csr.specs.declared.register.Register.TheVariants.{Mcycle, Mcycleh, Minstret, Minstreth, Cycle, Cycleh}
+use Rattle.cx_csr.specs.declared.register.Register.TheVariants.{Time, Timeh, Instret, Instreth, NoEffect}
+use Rattle.cx_csr.specs.declared.numbers.TheConstants.{CSR_SSTATUS, CSR_SIE, CSR_STVEC, CSR_SCOUNTEREN, CSR_SENVCFG}
+use Rattle.cx_csr.specs.declared.numbers.TheConstants.{CSR_SSCRATCH, CSR_SEPC, CSR_SCAUSE, CSR_STVAL, CSR_SIP, CSR_SATP}
+use Rattle.cx_csr.specs.declared.numbers.TheConstants.{CSR_MSTATUS, CSR_MISA, CSR_MEDELEG, CSR_MIDELEG, CSR_MIE}
+use Rattle.cx_csr.specs.declared.numbers.TheConstants.{CSR_MTVEC, CSR_MCOUNTEREN, CSR_MENVCFG, CSR_MSTATUSH}
+use Rattle.cx_csr.specs.declared.numbers.TheConstants.{CSR_MENVCFGH, CSR_MCOUNTINHIBIT, CSR_MHPMEVENT3, CSR_MHPMEVENT31}
+use Rattle.cx_csr.specs.declared.numbers.TheConstants.{CSR_MSCRATCH, CSR_MEPC, CSR_MCAUSE, CSR_MTVAL, CSR_MIP}
+use Rattle.cx_csr.specs.declared.numbers.TheConstants.{CSR_PMPCFG0, CSR_PMPCFG3, CSR_PMPADDR0, CSR_PMPADDR15}
+use Rattle.cx_csr.specs.declared.numbers.TheConstants.{CSR_MCYCLE, CSR_MINSTRET, CSR_MHPMCOUNTER3, CSR_MHPMCOUNTER31}
+use Rattle.cx_csr.specs.declared.numbers.TheConstants.{CSR_MCYCLEH, CSR_MINSTRETH, CSR_MHPMCOUNTER3H}
+use Rattle.cx_csr.specs.declared.numbers.TheConstants.{CSR_MHPMCOUNTER31H, CSR_MVENDORID, CSR_MCONFIGPTR, CSR_CYCLE}
+use Rattle.cx_csr.specs.declared.numbers.TheConstants.{CSR_TIME, CSR_INSTRET, CSR_HPMCOUNTER3, CSR_HPMCOUNTER31}
+use Rattle.cx_csr.specs.declared.numbers.TheConstants.{CSR_CYCLEH, CSR_TIMEH, CSR_INSTRETH, CSR_HPMCOUNTER3H}
+use Rattle.cx_csr.specs.declared.numbers.TheConstants.{CSR_HPMCOUNTER31H}
 
 -- the number is one of those from first to last
 abbrev pub is_from : ℕ → ℕ → ℕ → Bool

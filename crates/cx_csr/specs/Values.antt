@@ -8,12 +8,17 @@ use Rattle.cx_csr.specs.declared.access.Csr.{Csr}
 use Rattle.cx_csr.specs.declared.access.Csr.TheVariants.{Value}
 use Rattle.cx_csr.specs.declared.access.Csr.TheVariants as answers
 use Rattle.cx_csr.specs.declared.register.Register.{Register}
-use Rattle.cx_csr.specs.declared.register.Register.TheVariants.{Sstatus, Sie, Stvec, Scounteren, Sscratch, Sepc, Scause, Stval, Sip, Satp, Mstatus, Misa, Medeleg, Mideleg, Mie, Mtvec, Mcounteren, Mscratch, Mepc, Mcause, Mtval, Mip, Mcycle, Mcycleh, Minstret, Minstreth, Cycle, Cycleh, Time, Timeh, Instret, Instreth, NoEffect}
+use Rattle.cx_csr.specs.declared.register.Register.TheVariants.{Sstatus, Sie, Stvec, Scounteren, Sscratch, Sepc, Scause}
+use Rattle.cx_csr.specs.declared.register.Register.TheVariants.{Stval, Sip, Satp, Mstatus, Misa, Medeleg, Mideleg, Mie}
+use Rattle.cx_csr.specs.declared.register.Register.TheVariants.{Mtvec, Mcounteren, Mscratch, Mepc, Mcause, Mtval, Mip}
+use Rattle.cx_csr.specs.declared.register.Register.TheVariants.{Mcycle, Mcycleh, Minstret, Minstreth, Cycle, Cycleh}
+use Rattle.cx_csr.specs.declared.register.Register.TheVariants.{Time, Timeh, Instret, Instreth, NoEffect}
 use Rattle.cx_csr.specs.Bits.{with_bits}
 use Rattle.cx_csr.specs.declared.causes.TheConstants.{DELEGABLE_EXCEPTIONS}
 use Rattle.cx_csr.specs.declared.fields.TheConstants.{TVEC_FIELDS, EPC_FIELDS, COUNTEREN_FIELDS, MISA}
 use Rattle.cx_csr.specs.declared.interrupts.TheConstants.{SSI, SUPERVISOR_INTERRUPTS, ALL_INTERRUPTS}
-use Rattle.cx_csr.specs.declared.status.TheConstants.{MPP_FIELD, MPP_RESERVED, SSTATUS_FIELDS, MSTATUS_FIELDS_BUT_MPP, MSTATUS_FIELDS}
+use Rattle.cx_csr.specs.declared.status.TheConstants.{MPP_FIELD, MPP_RESERVED, SSTATUS_FIELDS, MSTATUS_FIELDS_BUT_MPP}
+use Rattle.cx_csr.specs.declared.status.TheConstants.{MSTATUS_FIELDS}
 
 -- the interrupts that are pending: the software bits and the lines (section 3.1.9)
 abbrev pub pending_bits : State → ℕ

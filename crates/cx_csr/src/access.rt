@@ -2,7 +2,8 @@
 
 ghost use Rattle.std.specs.Prelude.{◌≡◌, ℕ, ◌||◌, true, false, if◌then◌else◌, is_err, None};
 ghost use Rattle.cx_csr.specs.declared.state.State.{State};
-ghost use Rattle.cx_csr.specs.Access.{csr_read, is_illegal, is_above, is_read_only, is_trapped, is_user_counter, is_closed, is_closed_to_user, modify_base, written_at};
+ghost use Rattle.cx_csr.specs.Access.{csr_read, is_illegal, is_above, is_read_only, is_trapped, is_user_counter};
+ghost use Rattle.cx_csr.specs.Access.{is_closed, is_closed_to_user, modify_base, written_at};
 ghost use Rattle.cx_csr.specs.Keeps.{Keeps};
 ghost use Rattle.cx_csr.specs.Table.{register_at};
 ghost use Rattle.cx_csr.specs.Values.{csr_written, read_as, status_written};
@@ -106,7 +107,8 @@ fn is_read_only(number: u16) -> bool
 
 /// Whether an access to a register that is there is illegal, be it a read or a write.
 fn is_barred(state: &State, number: u16) -> bool
-    ensures { result ≡ (is_above state.now number || is_trapped state.now number || is_closed state.now number || is_closed_to_user state.now number) }
+    ensures { result ≡ (is_above state.now number || is_trapped state.now number || is_closed state.now number
+        || is_closed_to_user state.now number) }
 {
     is_above_mode(state, number)
         || number == CSR_SATP && state.mode == SUPERVISOR && is_bit_set(state.csr.mstatus, TVM)

@@ -28,8 +28,10 @@ pub fn words_fit()
 
 /// 58 words of 32 bits that all obey their rules are the words of a state that keeps the rules.
 pub fn fitting_words_are_a_state()
-    ensures keeps { (pages : ℕ) (words : List ℕ) → length words ≡ 58 → All (λ w. w < 2 ^ 32) words → AllFit pages words → Keeps pages (state_of words) }
-    ensures words { (pages : ℕ) (words : List ℕ) → length words ≡ 58 → AllFit pages words → words_of (state_of words) ≡ words }
+    ensures keeps { (pages : ℕ) (words : List ℕ) → length words ≡ 58 → All (λ w. w < 2 ^ 32) words → AllFit pages words
+        → Keeps pages (state_of words) }
+    ensures words { (pages : ℕ) (words : List ℕ) → length words ≡ 58 → AllFit pages words
+        → words_of (state_of words) ≡ words }
 {}
 
 /// The words of a state that keeps the rules read back as that state.
@@ -52,7 +54,8 @@ pub fn state_stands_behind_its_words()
 
 /// A word passes the test of a rule exactly where it obeys the rule.
 pub fn tests_are_rules()
-    ensures { (pages before word : ℕ) (rule : Rule) → IsTrue (admits pages before rule word) ↔ Admits pages before rule word }
+    ensures { (pages before word : ℕ) (rule : Rule) → IsTrue (admits pages before rule word)
+        ↔ Admits pages before rule word }
 {}
 
 /// A read is illegal exactly for its reasons, and every other read answers.
@@ -65,8 +68,8 @@ pub fn illegal_writes()
     ensures { (s : State) (number : ℕ) → is_illegal true s number ≡ (is_illegal false s number || is_read_only number) }
 {}
 
-/// What is read of a state that keeps the rules has 32 bits, and so has the value that an instruction sets or clears bits
-/// in.
+/// What is read of a state that keeps the rules has 32 bits, and so has the value that an instruction sets or clears
+/// bits in.
 pub fn reads_are_words()
     ensures read { (pages : ℕ) (s : State) (number : ℕ) → Keeps pages s → IsWordAnswer (csr_read s number) }
     ensures base { (s : State) (number value : ℕ) → value < 2 ^ 32 → modify_base s number value < 2 ^ 32 }
@@ -74,5 +77,6 @@ pub fn reads_are_words()
 
 /// A write of 32 bits keeps the rules.
 pub fn writes_keep()
-    ensures { (pages number value : ℕ) (s : State) → value < 2 ^ 32 → Keeps pages s → Keeps pages (written_at (register_at number) value s) }
+    ensures { (pages number value : ℕ) (s : State) → value < 2 ^ 32 → Keeps pages s
+        → Keeps pages (written_at (register_at number) value s) }
 {}

@@ -32,7 +32,8 @@ impl Flags for Lines {
 
     ghost exact = { ⊤ };
 
-    ghost table = { (codes "MSIP", 2 ^ MSI) ∷ (codes "MTIP", 2 ^ MTI) ∷ (codes "SEIP", 2 ^ SEI) ∷ (codes "MEIP", 2 ^ MEI) ∷ [] };
+    ghost table = { (codes "MSIP", 2 ^ MSI) ∷ (codes "MTIP", 2 ^ MTI) ∷ (codes "SEIP", 2 ^ SEI)
+        ∷ (codes "MEIP", 2 ^ MEI) ∷ [] };
 
     ghost set_of = { λ lines. lines.0 };
 

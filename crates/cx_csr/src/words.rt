@@ -1,6 +1,7 @@
 //! A state as 58 words, and back.
 
-ghost use Rattle.std.specs.Prelude.{◌≡◌, ℕ, ◌+◌, ◌*◌, ◌%◌, ◌/◌, ◌^◌, ◌<◌, ◌≤◌, [], ◌∷◌, ◌++◌, IsTrue, ◌↔◌, take, drop, slice_index, IfOk, IfErr, IfSome, Ok, MatchOption};
+ghost use Rattle.std.specs.Prelude.{◌≡◌, ℕ, ◌+◌, ◌*◌, ◌%◌, ◌/◌, ◌^◌, ◌<◌, ◌≤◌, [], ◌∷◌, ◌++◌, IsTrue, ◌↔◌, take, drop};
+ghost use Rattle.std.specs.Prelude.{slice_index, IfOk, IfErr, IfSome, Ok, MatchOption};
 ghost use Rattle.cx_csr.specs.declared.state.State.{State};
 ghost use Rattle.cx_csr.specs.Keeps.{Keeps};
 ghost use Rattle.cx_csr.specs.Rules.{Admits, admits, AllFit, IsFirstBad, rule_at};
@@ -34,7 +35,8 @@ impl State {
         Rule::of(index).admits(word, before, pages)
     }
 
-    /// The state that has these words. `Err(i)` where word i is the first that breaks its rule for RAM of `pages` pages.
+    /// The state that has these words. `Err(i)` where word i is the first that breaks its rule for RAM of `pages`
+    /// pages.
     pub fn from_words(words: &[u32; 58], pages: u32) -> Result<State, u8>
         ensures bad { IfErr result (IsFirstBad pages words.now) }
         ensures good { IfOk result (λ s. Keeps pages s × (words_of s ≡ words.now)) }

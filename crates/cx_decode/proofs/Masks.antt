@@ -1,5 +1,6 @@
 -- What a word has under the masks of the instruction table: a sum of its fields.
-use Rattle.std.proofs.Common.{◌≡◌, ℕ, ◌+◌, ◌-◌, ◌*◌, ◌/◌, ◌%◌, ◌^◌, ◌<◌, Bool, true, false, List, [], ◌∷◌, bit_and, refl, ◌∙◌, arith}
+use Rattle.std.proofs.Common.{◌≡◌, ℕ, ◌+◌, ◌-◌, ◌*◌, ◌/◌, ◌%◌, ◌^◌, ◌<◌, Bool, true, false, List, [], ◌∷◌, bit_and}
+use Rattle.std.proofs.Common.{refl, ◌∙◌, arith}
 use Rattle.std.proofs.Math.Nat.{mod-eq_of_lt}
 use Rattle.std.proofs.lemmas.Nat.{and_block, and_mask, shr_split, pow_pos}
 use Rattle.std.specs.Int.Bits.{and_zero_r}
@@ -19,7 +20,8 @@ kept [] word = 0
 kept ((n, true) ∷ runs) word = kept runs (word / 2 ^ n) * 2 ^ n + word % 2 ^ n
 kept ((n, false) ∷ runs) word = kept runs (word / 2 ^ n) * 2 ^ n + 0
 
-split_at : (n word mask low : ℕ) → low < 2 ^ n → bit_and word (mask * 2 ^ n + low) ≡ bit_and (word / 2 ^ n) mask * 2 ^ n + bit_and (word % 2 ^ n) low
+split_at : (n word mask low : ℕ) → low < 2 ^ n → bit_and word (mask * 2 ^ n + low) ≡ bit_and (word / 2 ^ n) mask * 2 ^ n
+    + bit_and (word % 2 ^ n) low
 split_at n word mask low small =
     let positive : 0 < 2 ^ n = pow_pos n in
     let rest : word % 2 ^ n < 2 ^ n = omega arith in
@@ -45,14 +47,21 @@ and_7f word = omega (arith, and_runs ((7, true) ∷ []) word)
 pub and_707f : (word : ℕ) → bit_and word 0x707f ≡ word / 2 ^ 12 % 2 ^ 3 * 2 ^ 12 + word % 2 ^ 7
 and_707f word = omega (arith, and_runs ((7, true) ∷ (5, false) ∷ (3, true) ∷ []) word)
 
-pub and_fe00707f : (word : ℕ) → bit_and word 0xfe00707f ≡ word / 2 ^ 25 % 2 ^ 7 * 2 ^ 25 + word / 2 ^ 12 % 2 ^ 3 * 2 ^ 12 + word % 2 ^ 7
+pub and_fe00707f : (word : ℕ) → bit_and word 0xfe00707f ≡ word / 2 ^ 25 % 2 ^ 7 * 2 ^ 25 + word / 2 ^ 12 % 2 ^ 3 * 2 ^
+    12 + word % 2 ^ 7
 and_fe00707f word = omega (arith, and_runs ((7, true) ∷ (5, false) ∷ (3, true) ∷ (10, false) ∷ (7, true) ∷ []) word)
 
-pub and_f800707f : (word : ℕ) → bit_and word 0xf800707f ≡ word / 2 ^ 27 % 2 ^ 5 * 2 ^ 27 + word / 2 ^ 12 % 2 ^ 3 * 2 ^ 12 + word % 2 ^ 7
+pub and_f800707f : (word : ℕ) → bit_and word 0xf800707f ≡ word / 2 ^ 27 % 2 ^ 5 * 2 ^ 27 + word / 2 ^ 12 % 2 ^ 3 * 2 ^
+    12 + word % 2 ^ 7
 and_f800707f word = omega (arith, and_runs ((7, true) ∷ (5, false) ∷ (3, true) ∷ (12, false) ∷ (5, true) ∷ []) word)
 
-pub and_f9f0707f : (word : ℕ) → bit_and word 0xf9f0707f ≡ word / 2 ^ 27 % 2 ^ 5 * 2 ^ 27 + word / 2 ^ 20 % 2 ^ 5 * 2 ^ 20 + word / 2 ^ 12 % 2 ^ 3 * 2 ^ 12 + word % 2 ^ 7
-and_f9f0707f word = omega (arith, and_runs ((7, true) ∷ (5, false) ∷ (3, true) ∷ (5, false) ∷ (5, true) ∷ (2, false) ∷ (5, true) ∷ []) word)
+pub and_f9f0707f : (word : ℕ) → bit_and word 0xf9f0707f ≡ word / 2 ^ 27 % 2 ^ 5 * 2 ^ 27 + word / 2 ^ 20 % 2 ^ 5 * 2 ^
+    20 + word / 2 ^ 12 % 2 ^ 3 * 2 ^ 12 + word % 2 ^ 7
+and_f9f0707f word = omega (
+  arith,
+  and_runs ((7, true) ∷ (5, false) ∷ (3, true) ∷ (5, false) ∷ (5, true) ∷ (2, false)
+      ∷ (5, true) ∷ []) word,
+)
 
 pub and_fe007fff : (word : ℕ) → bit_and word 0xfe007fff ≡ word / 2 ^ 25 % 2 ^ 7 * 2 ^ 25 + word % 2 ^ 15
 and_fe007fff word = omega (arith, and_runs ((15, true) ∷ (10, false) ∷ (7, true) ∷ []) word)

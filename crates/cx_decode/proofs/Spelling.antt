@@ -1,13 +1,16 @@
 -- The word that `encode` puts together has the row's bits and the instruction's operands, and is the only one.
 use Rattle.std.proofs.Common.{◌≡◌, ℕ, ◌+◌, ◌^◌, ◌<◌, bit_and, refl, sym, arith}
 use Rattle.std.proofs.lemmas.Bool.Decides.{nat_tests}
-use Rattle.cx_decode.proofs.Masks.{and_7f, and_707f, and_fe00707f, and_f800707f, and_f9f0707f, and_fe007fff, and_ffffffff}
+use Rattle.cx_decode.proofs.Masks.{and_7f, and_707f, and_fe00707f, and_f800707f, and_f9f0707f, and_fe007fff}
+use Rattle.cx_decode.proofs.Masks.{and_ffffffff}
 use Rattle.cx_decode.specs.Encoding.{placed_registers, placed_immediate}
 use Rattle.cx_decode.specs.Operands.{IsWordOf, operands}
 use Rattle.cx_decode.specs.Table.{row_of}
 use Rattle.cx_decode.specs.WellFormed.{Spells, WellFormed}
 use Rattle.cx_decode.specs.declared.format.Format.{Format}
-use Rattle.cx_decode.specs.declared.format.Format.TheVariants.{Register, Immediate, Shift, Store, Branch, Upper, Jump, Fence, Control, ControlImmediate, Plain, Translation, Reserve, Atomic}
+use Rattle.cx_decode.specs.declared.format.Format.TheVariants.{Register, Immediate, Shift, Store, Branch, Upper, Jump}
+use Rattle.cx_decode.specs.declared.format.Format.TheVariants.{Fence, Control, ControlImmediate, Plain, Translation}
+use Rattle.cx_decode.specs.declared.format.Format.TheVariants.{Reserve, Atomic}
 use Rattle.cx_decode.specs.declared.ins.Ins.{Ins}
 use Rattle.cx_decode.specs.declared.op.Op.{Op}
 use Rattle.cx_decode.specs.declared.op.Op.TheVariants.{Lui}
@@ -44,7 +47,8 @@ bits_in_mask op = refl
 abbrev pub spelled : Format → ℕ → Ins → ℕ
 spelled format bits i = bits + placed_registers i + placed_immediate format i.imm
 
-spelled_under : (format : Format) (bits : ℕ) (i : Ins) → bit_and bits (mask_by_format format) ≡ bits → Spells format i.rd i.rs1 i.rs2 i.imm → bit_and (spelled format bits i) (mask_by_format format) ≡ bits
+spelled_under : (format : Format) (bits : ℕ) (i : Ins) → bit_and bits (mask_by_format format) ≡ bits
+    → Spells format i.rd i.rs1 i.rs2 i.imm → bit_and (spelled format bits i) (mask_by_format format) ≡ bits
 unfolding mask_by_format
 spelled_under Register bits i kept spells = grind (arith, and_fe00707f)
 spelled_under Immediate bits i kept spells = grind (arith, and_707f)
@@ -61,7 +65,8 @@ spelled_under Translation bits i kept spells = grind (arith, and_fe007fff)
 spelled_under Reserve bits i kept spells = grind (arith, and_f9f0707f)
 spelled_under Atomic bits i kept spells = grind (arith, and_f800707f)
 
-spelled_operands : (format : Format) (bits : ℕ) (i : Ins) → bit_and bits (mask_by_format format) ≡ bits → Spells format i.rd i.rs1 i.rs2 i.imm → operands format i.op (spelled format bits i) ≡ i
+spelled_operands : (format : Format) (bits : ℕ) (i : Ins) → bit_and bits (mask_by_format format) ≡ bits
+    → Spells format i.rd i.rs1 i.rs2 i.imm → operands format i.op (spelled format bits i) ≡ i
 unfolding mask_by_format
 spelled_operands Register bits i kept spells = grind (arith, nat_tests, and_fe00707f)
 spelled_operands Immediate bits i kept spells = grind (arith, nat_tests, and_707f)
@@ -78,7 +83,8 @@ spelled_operands Translation bits i kept spells = grind (arith, nat_tests, and_f
 spelled_operands Reserve bits i kept spells = grind (arith, nat_tests, and_f9f0707f)
 spelled_operands Atomic bits i kept spells = grind (arith, nat_tests, and_f800707f)
 
-spelled_only : (format : Format) (bits : ℕ) (i : Ins) (word : ℕ) → word < 2 ^ 32 → bit_and word (mask_by_format format) ≡ bits → operands format i.op word ≡ i → word ≡ spelled format bits i
+spelled_only : (format : Format) (bits : ℕ) (i : Ins) (word : ℕ) → word < 2 ^ 32 → bit_and word (mask_by_format format)
+    ≡ bits → operands format i.op word ≡ i → word ≡ spelled format bits i
 unfolding mask_by_format
 spelled_only Register bits i word small kept spells = grind (arith, nat_tests, and_fe00707f)
 spelled_only Immediate bits i word small kept spells = grind (arith, nat_tests, and_707f)

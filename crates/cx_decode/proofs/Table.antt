@@ -1,12 +1,19 @@
 -- The table as a whole: no two rows match one word.
-use Rattle.std.proofs.Common.{◌≡◌, ℕ, ◌==◌, cond, Bool, true, false, List, [], ◌∷◌, Option, Some, None, IfSome, IfNone, bit_and, refl, sym, ◌∙◌, ap, subst, zero, suc, eq-eqb}
+use Rattle.std.proofs.Common.{◌≡◌, ℕ, ◌==◌, cond, Bool, true, false, List, [], ◌∷◌, Option, Some, None, IfSome, IfNone}
+use Rattle.std.proofs.Common.{bit_and, refl, sym, ◌∙◌, ap, subst, zero, suc, eq-eqb}
 use Rattle.std.proofs.lemmas.Nat.{and_comm, and_assoc}
 use Rattle.cx_decode.specs.Decoding.{all_ops}
 use Rattle.cx_decode.specs.Operands.{IsWordOf, ins_of}
 use Rattle.cx_decode.specs.Table.{Matches, MatchesNone, row_of}
 use Rattle.cx_decode.specs.declared.ins.Ins.{Ins}
 use Rattle.cx_decode.specs.declared.op.Op.{Op}
-use Rattle.cx_decode.specs.declared.op.Op.TheVariants.{Lui, Auipc, Jal, Jalr, Beq, Bne, Blt, Bge, Bltu, Bgeu, Lb, Lh, Lw, Lbu, Lhu, Sb, Sh, Sw, Addi, Slti, Sltiu, Xori, Ori, Andi, Slli, Srli, Srai, Add, Sub, Sll, Slt, Sltu, Xor, Srl, Sra, Or, And, Mul, Mulh, Mulhsu, Mulhu, Div, Divu, Rem, Remu, Fence, FenceI, Ecall, Ebreak, Sret, Mret, Wfi, SfenceVma, Csrrw, Csrrs, Csrrc, Csrrwi, Csrrsi, Csrrci, LrW, ScW, AmoswapW, AmoaddW, AmoxorW, AmoandW, AmoorW, AmominW, AmomaxW, AmominuW, AmomaxuW}
+use Rattle.cx_decode.specs.declared.op.Op.TheVariants.{Lui, Auipc, Jal, Jalr, Beq, Bne, Blt, Bge, Bltu, Bgeu, Lb, Lh}
+use Rattle.cx_decode.specs.declared.op.Op.TheVariants.{Lw, Lbu, Lhu, Sb, Sh, Sw, Addi, Slti, Sltiu, Xori, Ori, Andi}
+use Rattle.cx_decode.specs.declared.op.Op.TheVariants.{Slli, Srli, Srai, Add, Sub, Sll, Slt, Sltu, Xor, Srl, Sra, Or}
+use Rattle.cx_decode.specs.declared.op.Op.TheVariants.{And, Mul, Mulh, Mulhsu, Mulhu, Div, Divu, Rem, Remu, Fence}
+use Rattle.cx_decode.specs.declared.op.Op.TheVariants.{FenceI, Ecall, Ebreak, Sret, Mret, Wfi, SfenceVma, Csrrw, Csrrs}
+use Rattle.cx_decode.specs.declared.op.Op.TheVariants.{Csrrc, Csrrwi, Csrrsi, Csrrci, LrW, ScW, AmoswapW, AmoaddW}
+use Rattle.cx_decode.specs.declared.op.Op.TheVariants.{AmoxorW, AmoandW, AmoorW, AmominW, AmomaxW, AmominuW, AmomaxuW}
 
 -- Where a row stands in that list.
 place : Op → ℕ
@@ -111,16 +118,20 @@ abbrev pub passing : (Op → Bool) → List Op → List Op
 passing test [] = []
 passing test (op ∷ ops) = cond (test op) (op ∷ passing test ops) (passing test ops)
 
-passing_first : (P : Op → Type 0) (op : Op) (rest : List Op) (passes : Bool) → Each P (cond passes (op ∷ rest) rest) → (passes ≡ true → P op) × Each P rest
+passing_first : (P : Op → Type 0) (op : Op) (rest : List Op) (passes : Bool) → Each P (cond passes (op ∷ rest) rest)
+    → (passes ≡ true → P op) × Each P rest
 passing_first P op rest true all = (λ _. all.0, all.1)
 passing_first P op rest false all = (λ wrong. absurd cc, all)
 
-passing_each : (test : Op → Bool) (P : Op → Type 0) (ops : List Op) → Each P (passing test ops) → Each (λ op. test op ≡ true → P op) ops
+passing_each : (test : Op → Bool) (P : Op → Type 0) (ops : List Op) → Each P (passing test ops)
+    → Each (λ op. test op ≡ true → P op) ops
 passing_each test P [] all = tt
-passing_each test P (op ∷ ops) all = let parts = passing_first P op (passing test ops) (test op) all in (parts.0, passing_each test P ops parts.1)
+passing_each test P (op ∷ ops) all = let parts = passing_first P op (passing test ops) (test op) all in
+    (parts.0, passing_each test P ops parts.1)
 
 -- A fact of the rows that pass is one of every row that passes.
-pub each_passing : (test : Op → Bool) (P : Op → Type 0) → Each P (passing test all_ops) → (op : Op) → test op ≡ true → P op
+pub each_passing : (test : Op → Bool) (P : Op → Type 0) → Each P (passing test all_ops) → (op : Op) → test op ≡ true
+    → P op
 each_passing test P all op = each (λ o. test o ≡ true → P o) (passing_each test P all_ops all) op
 
 -- ---- no two rows match one word
@@ -134,21 +145,27 @@ agree_alone Lui = refl
 agree_alone op = refl
 
 -- What a match says of the bits that a second mask has too.
-under_both : (word : ℕ) (op other : Op) → Matches word op → bit_and (row_of op).bits (row_of other).mask ≡ bit_and word (bit_and (row_of op).mask (row_of other).mask)
-under_both word op other matches = ap (λ v. bit_and v (row_of other).mask) (sym matches) ∙ and_assoc (row_of other).mask word (row_of op).mask
+under_both : (word : ℕ) (op other : Op) → Matches word op → bit_and (row_of op).bits (row_of other).mask ≡ bit_and word
+    (bit_and (row_of op).mask (row_of other).mask)
+under_both word op other matches = ap (λ v. bit_and v (row_of other).mask) (sym matches)
+    ∙ and_assoc (row_of other).mask word (row_of op).mask
 
 matches_agree : (word : ℕ) (op other : Op) → Matches word op → Matches word other → agree op other ≡ true
 unfolding agree
 matches_agree word op other one two =
-    eq-eqb _ _ (under_both word op other one ∙ ap (bit_and word) (and_comm (row_of op).mask (row_of other).mask) ∙ sym (under_both word other op two))
+    eq-eqb _ _ (under_both word op other one ∙ ap (bit_and word) (and_comm (row_of op).mask (row_of other).mask)
+    ∙ sym (under_both word other op two))
 
 pub matches_unique : (word : ℕ) (op other : Op) → Matches word op → Matches word other → op ≡ other
 matches_unique word op other one two =
-    let alone : Each (λ o. op ≡ o) (passing (agree op) all_ops) = subst (Each (λ o. op ≡ o)) (sym (agree_alone op)) (refl, tt) in
+    let alone : Each (λ o. op ≡ o) (passing (agree op) all_ops) = subst (Each (λ o. op ≡ o)) (sym (agree_alone op))
+    (refl, tt) in
     each_passing (agree op) (λ o. op ≡ o) alone other (matches_agree word op other one two)
 
--- What is a row's instruction wherever it is there, and isn't there only where no row matches, is that of the row that does.
-pub found_of_row : (result : Option Ins) (word : ℕ) (op : Op) → IfSome result (IsWordOf word) → IfNone result (MatchesNone word) → Matches word op → result ≡ Some (ins_of op word)
+-- What is a row's instruction wherever it is there, and isn't there only where no row matches, is that of the row that
+-- does.
+pub found_of_row : (result : Option Ins) (word : ℕ) (op : Op) → IfSome result (IsWordOf word)
+    → IfNone result (MatchesNone word) → Matches word op → result ≡ Some (ins_of op word)
 found_of_row None word op found none matches = absurd (none op matches)
 found_of_row (Some i) word op found none matches =
     ap Some (found.1 ∙ ap (λ o. ins_of o word) (matches_unique word i.op op found.0 matches))

@@ -2,7 +2,9 @@
 -- number of a control register).
 use Rattle.std.specs.Prelude.{◌≡◌, ℕ, ◌+◌, ◌-◌, ◌*◌, ◌/◌, ◌%◌, ◌^◌, nat_lt, if◌then◌else◌}
 use Rattle.cx_decode.specs.declared.format.Format.{Format}
-use Rattle.cx_decode.specs.declared.format.Format.TheVariants.{Register, Immediate, Shift, Store, Branch, Upper, Jump, Fence, Control, ControlImmediate, Plain, Translation, Reserve, Atomic}
+use Rattle.cx_decode.specs.declared.format.Format.TheVariants.{Register, Immediate, Shift, Store, Branch, Upper, Jump}
+use Rattle.cx_decode.specs.declared.format.Format.TheVariants.{Fence, Control, ControlImmediate, Plain, Translation}
+use Rattle.cx_decode.specs.declared.format.Format.TheVariants.{Reserve, Atomic}
 use Rattle.cx_decode.specs.declared.ins.Ins.{Ins}
 use Rattle.cx_decode.specs.declared.op.Op.{Op}
 use Rattle.cx_decode.specs.Table.{Matches, row_of}
@@ -36,14 +38,16 @@ s_immediate word = sign_extended 12 (field 31 25 word * 2 ^ 5 + field 11 7 word)
 
 abbrev pub b_immediate : ℕ → ℕ
 b_immediate word =
-    sign_extended 13 (field 31 31 word * 2 ^ 12 + field 7 7 word * 2 ^ 11 + field 30 25 word * 2 ^ 5 + field 11 8 word * 2)
+    sign_extended 13 (field 31 31 word * 2 ^ 12 + field 7 7 word * 2 ^ 11 + field 30 25 word * 2 ^ 5 + field 11 8
+    word * 2)
 
 abbrev pub u_immediate : ℕ → ℕ
 u_immediate word = field 31 12 word * 2 ^ 12
 
 abbrev pub j_immediate : ℕ → ℕ
 j_immediate word =
-    sign_extended 21 (field 31 31 word * 2 ^ 20 + field 19 12 word * 2 ^ 12 + field 20 20 word * 2 ^ 11 + field 30 21 word * 2)
+    sign_extended 21 (field 31 31 word * 2 ^ 20 + field 19 12 word * 2 ^ 12 + field 20 20 word * 2 ^ 11 + field 30 21
+    word * 2)
 
 -- ---- the operands of a format
 

@@ -1,7 +1,9 @@
 -- Which operands the format of a row can spell.
 use Rattle.std.specs.Prelude.{◌≡◌, ℕ, ◌%◌, ◌^◌, ◌<◌}
 use Rattle.cx_decode.specs.declared.format.Format.{Format}
-use Rattle.cx_decode.specs.declared.format.Format.TheVariants.{Register, Immediate, Shift, Store, Branch, Upper, Jump, Fence, Control, ControlImmediate, Plain, Translation, Reserve, Atomic}
+use Rattle.cx_decode.specs.declared.format.Format.TheVariants.{Register, Immediate, Shift, Store, Branch, Upper, Jump}
+use Rattle.cx_decode.specs.declared.format.Format.TheVariants.{Fence, Control, ControlImmediate, Plain, Translation}
+use Rattle.cx_decode.specs.declared.format.Format.TheVariants.{Reserve, Atomic}
 use Rattle.cx_decode.specs.declared.ins.Ins.{Ins}
 use Rattle.cx_decode.specs.Operands.{sign_extended}
 use Rattle.cx_decode.specs.Table.{row_of}

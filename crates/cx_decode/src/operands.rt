@@ -1,7 +1,8 @@
 //! The operands of a word.
 
 ghost use Rattle.std.specs.Prelude.{◌≡◌};
-ghost use Rattle.cx_decode.specs.Operands.{field, ins, operands, rd_of, rs1_of, rs2_of, i_immediate, s_immediate, b_immediate, u_immediate, j_immediate};
+ghost use Rattle.cx_decode.specs.Operands.{field, ins, operands, rd_of, rs1_of, rs2_of, i_immediate, s_immediate};
+ghost use Rattle.cx_decode.specs.Operands.{b_immediate, u_immediate, j_immediate};
 
 use crate::format::Format;
 use crate::ins::Ins;

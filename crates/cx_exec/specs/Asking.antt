@@ -2,11 +2,16 @@
 use Rattle.std.specs.Prelude.{ℕ, ◌+◌, ◌<◌, ◌==◌, Bool, true, false, List, Option, None, Some}
 use Rattle.cx_decode.specs.declared.ins.Ins.{Ins}
 use Rattle.cx_decode.specs.declared.op.Op.{Op}
-use Rattle.cx_decode.specs.declared.op.Op.TheVariants.{Lb, Lh, Lw, Lbu, Lhu, Sb, Sh, Sw, LrW, ScW, AmoswapW, AmoaddW, AmoxorW, AmoandW, AmoorW, AmominW, AmomaxW, AmominuW, AmomaxuW, Csrrw, Csrrs, Csrrc, Csrrwi, Csrrsi, Csrrci, Ecall, Ebreak, Sret, Mret}
+use Rattle.cx_decode.specs.declared.op.Op.TheVariants.{Lb, Lh, Lw, Lbu, Lhu, Sb, Sh, Sw, LrW, ScW, AmoswapW, AmoaddW}
+use Rattle.cx_decode.specs.declared.op.Op.TheVariants.{AmoxorW, AmoandW, AmoorW, AmominW, AmomaxW, AmominuW, AmomaxuW}
+use Rattle.cx_decode.specs.declared.op.Op.TheVariants.{Csrrw, Csrrs, Csrrc, Csrrwi, Csrrsi, Csrrci, Ecall, Ebreak, Sret}
+use Rattle.cx_decode.specs.declared.op.Op.TheVariants.{Mret}
 use Rattle.cx_exec.specs.Arithmetic.{wrapped}
 use Rattle.cx_exec.specs.Values.{got_number, values_of}
 use Rattle.cx_exec.specs.declared.asks.Access.{Access}
-use Rattle.cx_exec.specs.declared.asks.Access.TheVariants.{Load as LoadAccess, Store as StoreAccess, Reserve as ReserveAccess, Conditional as ConditionalAccess, Amo as AmoAccess}
+use Rattle.cx_exec.specs.declared.asks.Access.TheVariants.{Load as LoadAccess, Store as StoreAccess}
+use Rattle.cx_exec.specs.declared.asks.Access.TheVariants.{Reserve as ReserveAccess, Conditional as ConditionalAccess}
+use Rattle.cx_exec.specs.declared.asks.Access.TheVariants.{Amo as AmoAccess}
 use Rattle.cx_exec.specs.declared.asks.Ask.{Ask}
 use Rattle.cx_exec.specs.declared.asks.Ask.TheVariants.{Nothing, Load, Store, Reserve, Conditional, Amo, Csr, System}
 use Rattle.cx_exec.specs.declared.asks.Need.{Need}

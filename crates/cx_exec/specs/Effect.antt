@@ -1,11 +1,20 @@
 -- What an instruction does with the values that it works on: the value for a register, the next pc and the value
 -- stored, or a misaligned target.
-use Rattle.std.specs.Prelude.{ℕ, pos, ◌+◌, ◌*◌, ◌/◌, ◌%◌, ◌^◌, ◌*ℤ◌, Bool, not, if◌then◌else◌, ◌==◌, nat_lt, min, max, bit_and, bit_or, bit_xor, List, Option, None, Some, Result, Ok, Err}
+use Rattle.std.specs.Prelude.{ℕ, pos, ◌+◌, ◌*◌, ◌/◌, ◌%◌, ◌^◌, ◌*ℤ◌, Bool, not, if◌then◌else◌, ◌==◌, nat_lt, min, max}
+use Rattle.std.specs.Prelude.{bit_and, bit_or, bit_xor, List, Option, None, Some, Result, Ok, Err}
 use Rattle.cx_decode.specs.Operands.{sign_extended}
 use Rattle.cx_decode.specs.declared.ins.Ins.{Ins}
 use Rattle.cx_decode.specs.declared.op.Op.{Op}
-use Rattle.cx_decode.specs.declared.op.Op.TheVariants.{Lui, Auipc, Jal, Jalr, Beq, Bne, Blt, Bge, Bltu, Bgeu, Lb, Lh, Lw, Lbu, Lhu, Sb, Sh, Sw, Addi, Slti, Sltiu, Xori, Ori, Andi, Slli, Srli, Srai, Add, Sub, Sll, Slt, Sltu, Xor, Srl, Sra, Or, And, Mul, Mulh, Mulhsu, Mulhu, Div, Divu, Rem, Remu, Fence, FenceI, Ecall, Ebreak, Sret, Mret, Wfi, SfenceVma, Csrrw, Csrrs, Csrrc, Csrrwi, Csrrsi, Csrrci, LrW, ScW, AmoswapW, AmoaddW, AmoxorW, AmoandW, AmoorW, AmominW, AmomaxW, AmominuW, AmomaxuW}
-use Rattle.cx_exec.specs.Arithmetic.{wrapped, signed, difference, truth, less_signed, lesser_signed, greater_signed, shifted_left, shifted_right, shifted_right_signed, upper_half, quotient_signed, quotient, remainder_signed, remainder}
+use Rattle.cx_decode.specs.declared.op.Op.TheVariants.{Lui, Auipc, Jal, Jalr, Beq, Bne, Blt, Bge, Bltu, Bgeu, Lb, Lh}
+use Rattle.cx_decode.specs.declared.op.Op.TheVariants.{Lw, Lbu, Lhu, Sb, Sh, Sw, Addi, Slti, Sltiu, Xori, Ori, Andi}
+use Rattle.cx_decode.specs.declared.op.Op.TheVariants.{Slli, Srli, Srai, Add, Sub, Sll, Slt, Sltu, Xor, Srl, Sra, Or}
+use Rattle.cx_decode.specs.declared.op.Op.TheVariants.{And, Mul, Mulh, Mulhsu, Mulhu, Div, Divu, Rem, Remu, Fence}
+use Rattle.cx_decode.specs.declared.op.Op.TheVariants.{FenceI, Ecall, Ebreak, Sret, Mret, Wfi, SfenceVma, Csrrw, Csrrs}
+use Rattle.cx_decode.specs.declared.op.Op.TheVariants.{Csrrc, Csrrwi, Csrrsi, Csrrci, LrW, ScW, AmoswapW, AmoaddW}
+use Rattle.cx_decode.specs.declared.op.Op.TheVariants.{AmoxorW, AmoandW, AmoorW, AmominW, AmomaxW, AmominuW, AmomaxuW}
+use Rattle.cx_exec.specs.Arithmetic.{wrapped, signed, difference, truth, less_signed, lesser_signed, greater_signed}
+use Rattle.cx_exec.specs.Arithmetic.{shifted_left, shifted_right, shifted_right_signed, upper_half, quotient_signed}
+use Rattle.cx_exec.specs.Arithmetic.{quotient, remainder_signed, remainder}
 use Rattle.cx_exec.specs.Values.{values_of, registers_with}
 use Rattle.cx_exec.specs.declared.effect.Done.{Done}
 use Rattle.cx_exec.specs.declared.effect.Effect.{Effect}

@@ -6,8 +6,10 @@ use Rattle.cx_decode.specs.Operands.{ins_of}
 use Rattle.cx_decode.specs.Table.{Matches}
 use Rattle.cx_decode.specs.declared.ins.Ins.{Ins}
 use Rattle.cx_decode.specs.declared.op.Op.{Op}
-use Rattle.cx_decode.specs.declared.op.Op.TheVariants.{Ecall, Ebreak, Mret, Sret, SfenceVma, Csrrw, Csrrs, Csrrc, Csrrwi, Csrrsi, Csrrci}
-use Rattle.cx_csr.specs.declared.numbers.TheConstants.{CSR_CYCLE, CSR_TIME, CSR_INSTRET, CSR_CYCLEH, CSR_TIMEH, CSR_INSTRETH}
+use Rattle.cx_decode.specs.declared.op.Op.TheVariants.{Ecall, Ebreak, Mret, Sret, SfenceVma, Csrrw, Csrrs, Csrrc}
+use Rattle.cx_decode.specs.declared.op.Op.TheVariants.{Csrrwi, Csrrsi, Csrrci}
+use Rattle.cx_csr.specs.declared.numbers.TheConstants.{CSR_CYCLE, CSR_TIME, CSR_INSTRET, CSR_CYCLEH, CSR_TIMEH}
+use Rattle.cx_csr.specs.declared.numbers.TheConstants.{CSR_INSTRETH}
 
 -- The counters that every hart has, and their high halves (Unprivileged ISA, 10.1).
 abbrev pub is_base_counter : ℕ → Bool

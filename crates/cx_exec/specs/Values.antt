@@ -21,4 +21,12 @@ got_number (Outcome number) = number
 got_number (Old number) = number
 
 abbrev pub values_of : Ins → ℕ → List ℕ → Got → Values
-values_of i pc regs got = record { rd = i.rd; pc = pc; a = register regs i.rs1; b = register regs i.rs2; imm = i.imm; got = got_number got }
+values_of i pc regs got = record {
+  rd = i.rd;
+  pc = pc;
+  a = register regs i.rs1;
+  b = register regs i.rs2;
+  imm =
+      i.imm;
+  got = got_number got;
+}

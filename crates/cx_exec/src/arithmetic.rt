@@ -2,7 +2,9 @@
 
 ghost use Rattle.std.specs.Prelude.{◌≡◌, ◌*◌, ◌*ℤ◌, ◌<◌, ◌%◌, ◌^◌, pos};
 ghost use Rattle.cx_decode.specs.Operands.{sign_extended};
-ghost use Rattle.cx_exec.specs.Arithmetic.{greater_signed, lesser_signed, truth, less_signed, shifted_left, shifted_right, shifted_right_signed, signed, upper_half, quotient_signed, quotient, remainder_signed, remainder};
+ghost use Rattle.cx_exec.specs.Arithmetic.{greater_signed, lesser_signed, truth, less_signed, shifted_left};
+ghost use Rattle.cx_exec.specs.Arithmetic.{shifted_right, shifted_right_signed, signed, upper_half, quotient_signed};
+ghost use Rattle.cx_exec.specs.Arithmetic.{quotient, remainder_signed, remainder};
 
 /// Whether a is less than b as signed numbers.
 pub fn less_signed(a: u32, b: u32) -> bool

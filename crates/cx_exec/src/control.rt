@@ -19,8 +19,8 @@ pub fn reads_control(ins: &Ins) -> bool
     }
 }
 
-/// Whether an instruction writes a control register: each control register instruction does, but one that sets or clears
-/// bits and has 0 in bits 19:15 of its word.
+/// Whether an instruction writes a control register: each control register instruction does, but one that sets or
+/// clears bits and has 0 in bits 19:15 of its word.
 pub fn writes_control(ins: &Ins) -> bool
     ensures { result ≡ writes_control ins.now }
 {

@@ -17,9 +17,9 @@ use crate::values::Values;
 use cx_decode::{Ins, Op};
 
 /// The effect of an instruction at pc, with these registers and what it got for its ask; of an answer of another kind
-/// its number counts alone. `Misaligned` comes exactly where a jump or a taken branch has a target that isn't a multiple
-/// of 4. A value is stored exactly where the ask is for a store. ECALL, EBREAK, SRET and MRET go on to pc + 4: what they
-/// do besides is no matter of these values.
+/// its number counts alone. `Misaligned` comes exactly where a jump or a taken branch has a target that isn't a
+/// multiple of 4. A value is stored exactly where the ask is for a store. ECALL, EBREAK, SRET and MRET go on to pc + 4:
+/// what they do besides is no matter of these values.
 pub fn carry_out(ins: &Ins, pc: u32, regs: &[u32; 32], got: Got) -> Result<Effect, Misaligned>
     requires { WellFormed ins.now }
     ensures effect { result ≡ effect_of ins.now pc regs.now got }

@@ -1,5 +1,6 @@
 -- How often a turn looks, where each kind of look has a price of its own.
-use Rattle.std.proofs.Common.{◌≡◌, ℕ, zero, suc, ◌+◌, ◌-◌, ◌*◌, ◌≤◌, Bool, true, false, cond, List, [], ◌∷◌, ◌++◌, map, take, Option, None, Some, Ok, Err, arith}
+use Rattle.std.proofs.Common.{◌≡◌, ℕ, zero, suc, ◌+◌, ◌-◌, ◌*◌, ◌≤◌, Bool, true, false, cond, List, [], ◌∷◌, ◌++◌, map}
+use Rattle.std.proofs.Common.{take, Option, None, Some, Ok, Err, arith}
 use Rattle.cx_decode.specs.declared.ins.Ins.{Ins}
 use Rattle.cx_exec.specs.Asking.{ask_of, need_of}
 use Rattle.cx_exec.specs.declared.asks.Access.{Access}
@@ -17,7 +18,9 @@ use Rattle.cx_hart.specs.Fetch.{fetched, look_at, read_at, translated, walk_in}
 use Rattle.cx_hart.specs.Legal.{instruction}
 use Rattle.cx_hart.specs.Looks.{Entry, First, Look, Rest, Word}
 use Rattle.cx_hart.specs.Phases.{Phase, found, looks_behind, sees, trap, unseen, ◌>>=◌}
-use Rattle.cx_hart.specs.Reaching.{first_length, goes_on, is_naturally_aligned, is_split, kind_of, misaligned_cause, reached, reached_part, reached_rest, reached_second, reached_split, reached_whole, second_address, target_at}
+use Rattle.cx_hart.specs.Reaching.{first_length, goes_on, is_naturally_aligned, is_split, kind_of, misaligned_cause}
+use Rattle.cx_hart.specs.Reaching.{reached, reached_part, reached_rest, reached_second, reached_split, reached_whole}
+use Rattle.cx_hart.specs.Reaching.{second_address, target_at}
 use Rattle.cx_hart.specs.Surroundings.{Surroundings}
 use Rattle.cx_hart.specs.Touches.{touch}
 use Rattle.cx_hart.specs.Turn.{done_by_need, executed, fetched_and_executed, turn, unless_interrupted}
@@ -45,14 +48,21 @@ module _ (ce cw cf cr : ℕ) where
 
   -- ---- phases
 
-  pub within_behind : {Y Z : Type 0} (e : End Y) (next : Y → Phase Z) (b : ℕ) → ((y : Y) → costs (next y).looks ≤ b) → costs (looks_behind e next) ≤ b
+  pub within_behind : {Y Z : Type 0} (e : End Y) (next : Y → Phase Z) (b : ℕ) → ((y : Y) → costs (next y).looks ≤ b)
+      → costs (looks_behind e next) ≤ b
   within_behind (Ok y) next b rest = rest y
   within_behind (Err stop) next b rest = omega arith
 
-  pub within_bind : {Y Z : Type 0} (phase : Phase Y) (next : Y → Phase Z) (a b : ℕ) → costs phase.looks ≤ a → ((y : Y) → costs (next y).looks ≤ b) → costs (phase >>= next).looks ≤ a + b
-  within_bind phase next a b first rest = omega (arith, costs_append phase.looks (looks_behind phase.end next), within_behind phase.end next b rest)
+  pub within_bind : {Y Z : Type 0} (phase : Phase Y) (next : Y → Phase Z) (a b : ℕ) → costs phase.looks ≤ a
+      → ((y : Y) → costs (next y).looks ≤ b) → costs (phase >>= next).looks ≤ a + b
+  within_bind phase next a b first rest = omega (
+    arith,
+    costs_append phase.looks (looks_behind phase.end next),
+    within_behind phase.end next b rest,
+  )
 
-  within_if : {Y : Type 0} (c : Bool) (one other : Phase Y) (n : ℕ) → costs one.looks ≤ n → costs other.looks ≤ n → costs (cond c one other).looks ≤ n
+  within_if : {Y : Type 0} (c : Bool) (one other : Phase Y) (n : ℕ) → costs one.looks ≤ n → costs other.looks ≤ n
+      → costs (cond c one other).looks ≤ n
   within_if true one other n first second = first
   within_if false one other n first second = second
 
@@ -67,30 +77,37 @@ module _ (ce cw cf cr : ℕ) where
   module _ (here : Surroundings) where
     pub translated_within : (kind : Kind) (va len : ℕ) → costs (translated here kind va len).looks ≤ 2 * ce
     unfolding translated
-    translated_within kind va len = walk_within here.memory (walk_in here kind va len).places (walk_in here kind va len).count (walk_most here kind va len)
+    translated_within kind va len = walk_within here.memory (walk_in here kind va len).places
+        (walk_in here kind va len).count (walk_most here kind va len)
 
     pub fetched_within : costs (fetched here).looks ≤ 2 * ce + cw
     unfolding fetched
     fetched_within =
-        within_bind (translated here Fetch here.state.pc 4) (λ place. read_at here.memory Word (record { va = here.state.pc; pa = address_of place; len = 4 })) (2 * ce) cw (translated_within Fetch here.state.pc 4)
+        within_bind (translated here Fetch here.state.pc 4)
+        (λ place. read_at here.memory Word (record { va = here.state.pc; pa = address_of place; len = 4 })) (2 * ce)
+        cw (translated_within Fetch here.state.pc 4)
         (λ place. omega arith)
 
     module _ (n : Need) where
       whole_within : costs (reached_whole here n).looks ≤ 2 * ce
       unfolding reached_whole
       whole_within =
-          let both = within_bind (translated here (kind_of n.access) n.va n.len) (λ place. found (target_at n place)) (2 * ce) 0 (translated_within (kind_of n.access) n.va n.len) (λ place. omega arith) in
+          let both = within_bind (translated here (kind_of n.access) n.va n.len) (λ place. found (target_at n place))
+          (2 * ce) 0 (translated_within (kind_of n.access) n.va n.len) (λ place. omega arith) in
           omega (arith, both)
 
       part_within : (va len : ℕ) → costs (reached_part here n va len).looks ≤ 2 * ce
       part_within va len =
-          let both = within_bind {Z = Part} (translated here (kind_of n.access) va 1) (λ place. found (record { va = va; pa = address_of place; len = len })) (2 * ce) 0 (translated_within (kind_of n.access) va 1) (λ place. omega arith) in
+          let both = within_bind {Z = Part} (translated here (kind_of n.access) va 1)
+          (λ place. found (record { va = va; pa = address_of place; len = len })) (2 * ce) 0
+          (translated_within (kind_of n.access) va 1) (λ place. omega arith) in
           omega (arith, both)
 
       second_within : costs (reached_second here n).looks ≤ 2 * ce
       second_within =
           let both =
-          within_bind (reached_part here n (second_address n) (n.len - first_length n)) (λ part. found (Some part)) (2 * ce) 0 (part_within (second_address n) (n.len - first_length n)) (λ part. omega arith) in
+          within_bind (reached_part here n (second_address n) (n.len - first_length n)) (λ part. found (Some part))
+          (2 * ce) 0 (part_within (second_address n) (n.len - first_length n)) (λ part. omega arith) in
           omega (arith, both)
 
       rest_within : costs (reached_rest here n).looks ≤ 2 * ce
@@ -99,16 +116,20 @@ module _ (ce cw cf cr : ℕ) where
       split_within : costs (reached_split here n).looks ≤ 4 * ce
       unfolding reached_split
       split_within =
-          let rest = λ (first : Part). within_bind (reached_rest here n) (λ more. found (Memory first more)) (2 * ce) 0 rest_within (λ more. omega arith) in
+          let rest = λ (first : Part). within_bind (reached_rest here n) (λ more. found (Memory first more)) (2 * ce) 0
+          rest_within (λ more. omega arith) in
           let both =
-          within_bind (reached_part here n n.va (first_length n)) (λ first. reached_rest here n >>= λ more. found (Memory first more)) (2 * ce) (2 * ce + 0) (part_within n.va (first_length n)) rest in
+          within_bind (reached_part here n n.va (first_length n)) (λ first. reached_rest here n >>= λ more. found
+          (Memory first more)) (2 * ce) (2 * ce + 0) (part_within n.va (first_length n)) rest in
           omega (arith, both)
 
       pub reached_within : costs (reached here n).looks ≤ 4 * ce
       unfolding reached
       reached_within =
-          within_if (is_naturally_aligned n) (reached_whole here n) (cond (is_split here.split n) (reached_split here n) (trap (misaligned_cause n.access) n.va)) (4 * ce) (omega (arith, whole_within))
-          (within_if (is_split here.split n) (reached_split here n) (trap (misaligned_cause n.access) n.va) (4 * ce) split_within (omega arith))
+          within_if (is_naturally_aligned n) (reached_whole here n) (cond (is_split here.split n) (reached_split here n)
+          (trap (misaligned_cause n.access) n.va)) (4 * ce) (omega (arith, whole_within))
+          (within_if (is_split here.split n) (reached_split here n) (trap (misaligned_cause n.access) n.va) (4 * ce)
+          split_within (omega arith))
 
     bytes_within : (target : Target) → costs (bytes_of here target).looks ≤ cf + cr
     unfolding bytes_of
@@ -116,7 +137,8 @@ module _ (ce cw cf cr : ℕ) where
     bytes_within (Memory first (Some more)) = omega arith
     bytes_within (Device part) =
         let both =
-        within_bind (unseen (answered here.given (asked.Device part.pa))) (λ value. sees (First (touch part value)) (outer_reading (Bytes value) value)) 0 (cf + 0) (omega arith) (λ value. omega arith) in
+        within_bind (unseen (answered here.given (asked.Device part.pa))) (λ value. sees (First (touch part value))
+        (outer_reading (Bytes value) value)) 0 (cf + 0) (omega arith) (λ value. omega arith) in
         omega (arith, both)
 
     reading_within : (a : Access) (target : Target) → costs (reading_of here a target).looks ≤ cf + cr
@@ -130,13 +152,19 @@ module _ (ce cw cf cr : ℕ) where
     accessed_within : (i : Ins) (n : Need) → costs (accessed here i n).looks ≤ 4 * ce + (cf + cr)
     unfolding accessed
     accessed_within i n =
-        within_bind (reached here n) (λ target. reading_of here n.access target >>= λ reading. unseen (instruction_effect here.state i reading.got) >>= λ e. found (access_done here.state n.access target reading e)) (4 * ce)
+        within_bind (reached here n) (λ target. reading_of here n.access target >>= λ reading. unseen
+        (instruction_effect here.state i reading.got) >>= λ e. found (access_done here.state n.access target reading
+        e)) (4 * ce)
         (cf + cr) (reached_within n)
         (λ target.
         let both =
-        within_bind (reading_of here n.access target) (λ reading. unseen (instruction_effect here.state i reading.got) >>= λ e. found (access_done here.state n.access target reading e)) (cf + cr) 0 (reading_within n.access target)
+        within_bind (reading_of here n.access target) (λ reading. unseen (instruction_effect here.state i reading.got)
+        >>= λ e. found (access_done here.state n.access target reading e)) (cf + cr) 0
+        (reading_within n.access target)
         (λ reading.
-        let none = within_bind (unseen (instruction_effect here.state i reading.got)) (λ e. found (access_done here.state n.access target reading e)) 0 0 (omega arith) (λ e. omega arith) in omega (arith, none)) in
+        let none = within_bind (unseen (instruction_effect here.state i reading.got))
+        (λ e. found (access_done here.state n.access target reading e)) 0 0 (omega arith) (λ e. omega arith) in
+        omega (arith, none)) in
         omega (arith, both))
 
     need_within : (word : ℕ) (i : Ins) (o : Option Need) → costs (done_by_need here word i o).looks ≤ 4 * ce + (cf + cr)
@@ -147,7 +175,8 @@ module _ (ce cw cf cr : ℕ) where
     unfolding executed
     executed_within word i = need_within word i (need_of (ask_of i here.state.pc here.state.x))
 
-    uninterrupted_within : (o : Option ℕ) (p : Phase Retired) (n : ℕ) → costs p.looks ≤ n → costs (unless_interrupted o p).looks ≤ n
+    uninterrupted_within : (o : Option ℕ) (p : Phase Retired) (n : ℕ) → costs p.looks ≤ n
+        → costs (unless_interrupted o p).looks ≤ n
     uninterrupted_within None p n within = within
     uninterrupted_within (Some number) p n within = omega arith
 
@@ -155,6 +184,9 @@ module _ (ce cw cf cr : ℕ) where
     unfolding turn
     turn_within =
         let both =
-        within_bind (fetched here) (λ word. unseen (instruction word) >>= λ i. executed here word i) (2 * ce + cw) (0 + (4 * ce + (cf + cr))) fetched_within
-        (λ word. within_bind (unseen (instruction word)) (λ i. executed here word i) 0 (4 * ce + (cf + cr)) (omega arith) (λ i. executed_within word i)) in
-        uninterrupted_within (pending_of here.state) (fetched_and_executed here) (6 * ce + (cw + (cf + cr))) (omega (arith, both))
+        within_bind (fetched here) (λ word. unseen (instruction word) >>= λ i. executed here word i) (2 * ce + cw)
+        (0 + (4 * ce + (cf + cr))) fetched_within
+        (λ word. within_bind (unseen (instruction word)) (λ i. executed here word i) 0 (4 * ce + (cf + cr))
+        (omega arith) (λ i. executed_within word i)) in
+        uninterrupted_within (pending_of here.state) (fetched_and_executed here) (6 * ce + (cw + (cf + cr)))
+        (omega (arith, both))

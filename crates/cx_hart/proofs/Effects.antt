@@ -1,5 +1,7 @@
 -- What an instruction leaves fits: a register and its value, and the next pc.
-use Rattle.std.proofs.Common.{◌≡◌, ℕ, zero, suc, ℤ, pos, negsuc, ◌+◌, ◌-◌, ◌*◌, ◌/◌, ◌%◌, ◌^◌, ◌<◌, ◌≤◌, ◌*ℤ◌, Bool, true, false, cond, min, max, nat_eq, nat_lt, bit_and, Option, None, Some, Result, Ok, Err, refl, arith, w32}
+use Rattle.std.proofs.Common.{◌≡◌, ℕ, zero, suc, ℤ, pos, negsuc, ◌+◌, ◌-◌, ◌*◌, ◌/◌, ◌%◌, ◌^◌, ◌<◌, ◌≤◌, ◌*ℤ◌, Bool}
+use Rattle.std.proofs.Common.{true, false, cond, min, max, nat_eq, nat_lt, bit_and, Option, None, Some, Result, Ok, Err}
+use Rattle.std.proofs.Common.{refl, arith, w32}
 use borrow.Author.Tests.{eqb-true, ltb-false, ltb-true}
 use Rattle.std.specs.Prelude.{unsigned_abs, neg_ℤ}
 use Rattle.std.specs.Int.{cast_unsigned, int_shr}
@@ -10,9 +12,16 @@ use Rattle.std.proofs.lemmas.Nat.{and_le_l, or_of_32, xor_of_32}
 use Rattle.cx_csr.specs.Rules.{IsAligned}
 use Rattle.cx_decode.specs.Operands.{sign_extended}
 use Rattle.cx_decode.specs.declared.op.Op.{Op}
-use Rattle.cx_decode.specs.declared.op.Op.TheVariants.{Lui, Auipc, Jal, Jalr, Beq, Bne, Blt, Bge, Bltu, Bgeu, Lb, Lh, Lw, Lbu, Lhu, Sb, Sh, Sw, Addi, Slti, Sltiu, Xori, Ori, Andi, Slli, Srli, Srai, Add, Sub, Sll, Slt, Sltu, Xor, Srl, Sra, Or, And, Mul, Mulh, Mulhsu, Mulhu, Div, Divu, Rem, Remu, Csrrw, Csrrs, Csrrc, Csrrwi, Csrrsi, Csrrci, LrW, ScW, AmoswapW, AmoaddW, AmoxorW, AmoandW, AmoorW, AmominW, AmomaxW, AmominuW, AmomaxuW}
+use Rattle.cx_decode.specs.declared.op.Op.TheVariants.{Lui, Auipc, Jal, Jalr, Beq, Bne, Blt, Bge, Bltu, Bgeu, Lb, Lh}
+use Rattle.cx_decode.specs.declared.op.Op.TheVariants.{Lw, Lbu, Lhu, Sb, Sh, Sw, Addi, Slti, Sltiu, Xori, Ori, Andi}
+use Rattle.cx_decode.specs.declared.op.Op.TheVariants.{Slli, Srli, Srai, Add, Sub, Sll, Slt, Sltu, Xor, Srl, Sra, Or}
+use Rattle.cx_decode.specs.declared.op.Op.TheVariants.{And, Mul, Mulh, Mulhsu, Mulhu, Div, Divu, Rem, Remu, Csrrw}
+use Rattle.cx_decode.specs.declared.op.Op.TheVariants.{Csrrs, Csrrc, Csrrwi, Csrrsi, Csrrci, LrW, ScW, AmoswapW}
+use Rattle.cx_decode.specs.declared.op.Op.TheVariants.{AmoaddW, AmoxorW, AmoandW, AmoorW, AmominW, AmomaxW, AmominuW}
+use Rattle.cx_decode.specs.declared.op.Op.TheVariants.{AmomaxuW}
 use Rattle.cx_exec.specs.Arithmetic.{shifted_right_signed, signed, truth, upper_half, wrapped}
-use Rattle.cx_exec.specs.Effect.{branches, concludes, effect, even, following, gives, goes, jumps, passes, row_effect, stores, swaps}
+use Rattle.cx_exec.specs.Effect.{branches, concludes, effect, even, following, gives, goes, jumps, passes, row_effect}
+use Rattle.cx_exec.specs.Effect.{stores, swaps}
 use Rattle.cx_exec.specs.declared.effect.Effect.{Effect}
 use Rattle.cx_exec.specs.declared.effect.Misaligned.{Misaligned}
 use Rattle.cx_exec.specs.declared.values.Values.{Values}
@@ -68,21 +77,25 @@ abs_shift (negsuc n) k = let h : n / 2 ^ k ≤ n = div-le_self n (2 ^ k) in omeg
 abs_quotient : (x y : ℤ) → unsigned_abs (int_div x y) ≤ unsigned_abs x
 abs_quotient (pos a) (pos b) = div-le_self a b
 abs_quotient (pos a) (negsuc b) = let h : a / suc b ≤ a = div-le_self a (suc b) in omega (arith, abs_neg (a / suc b))
-abs_quotient (negsuc a) (pos b) = let h : suc a / b ≤ suc a = div-le_self (suc a) b in omega (arith, abs_neg (suc a / b))
+abs_quotient (negsuc a) (pos b) = let h : suc a / b ≤ suc a = div-le_self (suc a) b in
+    omega (arith, abs_neg (suc a / b))
 abs_quotient (negsuc a) (negsuc b) = div-le_self (suc a) (suc b)
 
 abs_remainder : (x y : ℤ) → unsigned_abs (int_rem x y) ≤ unsigned_abs x
 abs_remainder (pos a) d = mod-le a (unsigned_abs d)
-abs_remainder (negsuc a) d = let h : suc a % unsigned_abs d ≤ suc a = mod-le (suc a) (unsigned_abs d) in omega (arith, abs_neg (suc a % unsigned_abs d))
+abs_remainder (negsuc a) d = let h : suc a % unsigned_abs d ≤ suc a = mod-le (suc a) (unsigned_abs d) in
+    omega (arith, abs_neg (suc a % unsigned_abs d))
 
 shift_fits : (a k : ℕ) → a < 2 ^ 32 → shifted_right_signed a k < 2 ^ 32
 shift_fits a k fits = cast_fits (int_shr (signed a) k) (omega (arith, abs_shift (signed a) k, abs_signed a fits))
 
 quotient_fits : (a b : ℕ) → a < 2 ^ 32 → cast_unsigned w32 (int_div (signed a) (signed b)) < 2 ^ 32
-quotient_fits a b fits = cast_fits (int_div (signed a) (signed b)) (omega (arith, abs_quotient (signed a) (signed b), abs_signed a fits))
+quotient_fits a b fits =
+    cast_fits (int_div (signed a) (signed b)) (omega (arith, abs_quotient (signed a) (signed b), abs_signed a fits))
 
 remainder_fits : (a b : ℕ) → a < 2 ^ 32 → cast_unsigned w32 (int_rem (signed a) (signed b)) < 2 ^ 32
-remainder_fits a b fits = cast_fits (int_rem (signed a) (signed b)) (omega (arith, abs_remainder (signed a) (signed b), abs_signed a fits))
+remainder_fits a b fits =
+    cast_fits (int_rem (signed a) (signed b)) (omega (arith, abs_remainder (signed a) (signed b), abs_signed a fits))
 
 product_fits : (x y : ℤ) → unsigned_abs x ≤ 2 ^ 32 - 1 → unsigned_abs y ≤ 2 ^ 32 - 1 → upper_half (x *ℤ y) < 2 ^ 32
 product_fits x y one two =
@@ -111,10 +124,12 @@ rest_fits : (x y : ℕ) → x < 2 ^ 32 → x % y < 2 ^ 32
 rest_fits x y fits = omega arith
 
 byte_fits : (n : ℕ) → sign_extended 8 (n % 2 ^ 8) < 2 ^ 32
-byte_fits n = either_fits (nat_lt (n % 2 ^ 8) (2 ^ 7)) (n % 2 ^ 8) (n % 2 ^ 8 + (2 ^ 32 - 2 ^ 8)) (omega arith) (omega arith)
+byte_fits n = either_fits (nat_lt (n % 2 ^ 8) (2 ^ 7)) (n % 2 ^ 8) (n % 2 ^ 8 + (2 ^ 32 - 2 ^ 8)) (omega arith)
+    (omega arith)
 
 half_fits : (n : ℕ) → sign_extended 16 (n % 2 ^ 16) < 2 ^ 32
-half_fits n = either_fits (nat_lt (n % 2 ^ 16) (2 ^ 15)) (n % 2 ^ 16) (n % 2 ^ 16 + (2 ^ 32 - 2 ^ 16)) (omega arith) (omega arith)
+half_fits n = either_fits (nat_lt (n % 2 ^ 16) (2 ^ 15)) (n % 2 ^ 16) (n % 2 ^ 16 + (2 ^ 32 - 2 ^ 16)) (omega arith)
+    (omega arith)
 
 min_fits : (x y : ℕ) → x < 2 ^ 32 → min x y < 2 ^ 32
 min_fits x y fits = omega arith
@@ -152,8 +167,10 @@ module _ (v : Values) (ok : InRange v) where
   concludes_fits true = record { rd = ok.rd; value = omega arith; pc = following_aligned }
   concludes_fits false = record { rd = ok.rd; value = omega arith; pc = following_aligned }
 
-  goes_by : (rd value target : ℕ) (b : Bool) → nat_eq (target % 4) 0 ≡ b → rd < 32 → value < 2 ^ 32 → target < 2 ^ 32 → IsOutcome (goes rd value target)
-  goes_by rd value target true e small fits wide = rw e (record { rd = small; value = fits; pc = record { wide = wide; multiple = eqb-true _ _ e } })
+  goes_by : (rd value target : ℕ) (b : Bool) → nat_eq (target % 4) 0 ≡ b → rd < 32 → value < 2 ^ 32 → target < 2 ^ 32
+      → IsOutcome (goes rd value target)
+  goes_by rd value target true e small fits wide =
+      rw e (record { rd = small; value = fits; pc = record { wide = wide; multiple = eqb-true _ _ e } })
   goes_by rd value target false e small fits wide = rw e wide
 
   goes_fits : (rd value target : ℕ) → rd < 32 → value < 2 ^ 32 → target < 2 ^ 32 → IsOutcome (goes rd value target)
@@ -205,8 +222,10 @@ module _ (v : Values) (ok : InRange v) where
   row_fits Or = gives_fits _ (or_of_32 v.a v.b ok.a ok.b)
   row_fits And = gives_fits _ (and_fits v.a v.b ok.a)
   row_fits Mul = gives_fits _ (wrapped_fits _)
-  row_fits Mulh = gives_fits _ (product_fits (signed v.a) (signed v.b) (omega (arith, abs_signed v.a ok.a)) (omega (arith, abs_signed v.b ok.b)))
-  row_fits Mulhsu = gives_fits _ (product_fits (signed v.a) (pos v.b) (omega (arith, abs_signed v.a ok.a)) (omega (arith, ok.b)))
+  row_fits Mulh = gives_fits _ (product_fits (signed v.a) (signed v.b) (omega (arith, abs_signed v.a ok.a))
+      (omega (arith, abs_signed v.b ok.b)))
+  row_fits Mulhsu = gives_fits _ (product_fits (signed v.a) (pos v.b) (omega (arith, abs_signed v.a ok.a))
+      (omega (arith, ok.b)))
   row_fits Mulhu = gives_fits _ (wide_fits v.a v.b ok.a ok.b)
   row_fits Div = gives_fits _ (either_fits (nat_eq v.b 0) (2 ^ 32 - 1) _ (omega arith) (quotient_fits v.a v.b ok.a))
   row_fits Divu = gives_fits _ (either_fits (nat_eq v.b 0) (2 ^ 32 - 1) _ (omega arith) (divided_fits v.a v.b ok.a))

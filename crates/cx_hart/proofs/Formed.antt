@@ -8,7 +8,9 @@ use Rattle.cx_decode.specs.Operands.{field, ins_of, operands, sign_extended}
 use Rattle.cx_decode.specs.Table.{row_of}
 use Rattle.cx_decode.specs.WellFormed.{IsEvenSigned, IsSigned, Spells, WellFormed}
 use Rattle.cx_decode.specs.declared.format.Format.{Format}
-use Rattle.cx_decode.specs.declared.format.Format.TheVariants.{Register, Immediate, Shift, Store, Branch, Upper, Jump, Fence, Control, ControlImmediate, Plain, Translation, Reserve, Atomic}
+use Rattle.cx_decode.specs.declared.format.Format.TheVariants.{Register, Immediate, Shift, Store, Branch, Upper, Jump}
+use Rattle.cx_decode.specs.declared.format.Format.TheVariants.{Fence, Control, ControlImmediate, Plain, Translation}
+use Rattle.cx_decode.specs.declared.format.Format.TheVariants.{Reserve, Atomic}
 use Rattle.cx_decode.specs.declared.op.Op.{Op}
 
 signed_12 : (n : ℕ) → n < 2 ^ 12 → IsSigned 12 (sign_extended 12 n)
@@ -21,14 +23,27 @@ signed_21 : (n : ℕ) → n < 2 ^ 21 → n % 2 ≡ 0 → IsEvenSigned 21 (sign_e
 signed_21 n small even = (grind (arith, nat_tests), grind (arith, nat_tests))
 
 module _ (op : Op) (word : ℕ) (fits : word < 2 ^ 32) where
-  spells : (f : Format) → Spells f (operands f op word).rd (operands f op word).rs1 (operands f op word).rs2 (operands f op word).imm
+  spells : (f : Format) → Spells f (operands f op word).rd (operands f op word).rs1 (operands f op word).rs2
+      (operands f op word).imm
   spells Register = (omega arith, omega arith, omega arith, refl)
   spells Immediate = (omega arith, omega arith, refl, signed_12 (field 31 20 word) (omega arith))
   spells Shift = (omega arith, omega arith, refl, omega arith)
   spells Store = (refl, omega arith, omega arith, signed_12 (field 31 25 word * 2 ^ 5 + field 11 7 word) (omega arith))
-  spells Branch = (refl, omega arith, omega arith, signed_13 (field 31 31 word * 2 ^ 12 + field 7 7 word * 2 ^ 11 + field 30 25 word * 2 ^ 5 + field 11 8 word * 2) (omega arith) (omega arith))
+  spells Branch = (
+    refl,
+    omega arith,
+    omega arith,
+    signed_13 (field 31 31 word * 2 ^ 12 + field 7 7 word * 2 ^ 11
+        + field 30 25 word * 2 ^ 5 + field 11 8 word * 2) (omega arith) (omega arith),
+  )
   spells Upper = (omega arith, refl, refl, (omega arith, omega arith))
-  spells Jump = (omega arith, refl, refl, signed_21 (field 31 31 word * 2 ^ 20 + field 19 12 word * 2 ^ 12 + field 20 20 word * 2 ^ 11 + field 30 21 word * 2) (omega arith) (omega arith))
+  spells Jump = (
+    omega arith,
+    refl,
+    refl,
+    signed_21 (field 31 31 word * 2 ^ 20 + field 19 12 word * 2 ^ 12 + field 20 20
+        word * 2 ^ 11 + field 30 21 word * 2) (omega arith) (omega arith),
+  )
   spells Fence = (omega arith, omega arith, refl, omega arith)
   spells Control = (omega arith, omega arith, refl, omega arith)
   spells ControlImmediate = (omega arith, omega arith, refl, omega arith)

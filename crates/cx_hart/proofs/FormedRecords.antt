@@ -1,8 +1,11 @@
 -- The record of a step is well formed.
-use Rattle.std.proofs.Common.{◌≡◌, inl, inr, ℕ, ◌≤◌, Bool, true, false, nat_eq, List, [], ◌∷◌, ◌++◌, length, take, Option, None, Some, Result, Ok, Err, IfOk, IfErr, IfSome, IsSome, is_some, refl, sym, ap, subst, ◌∙◌, arith}
+use Rattle.std.proofs.Common.{◌≡◌, inl, inr, ℕ, ◌≤◌, Bool, true, false, nat_eq, List, [], ◌∷◌, ◌++◌, length, take}
+use Rattle.std.proofs.Common.{Option, None, Some, Result, Ok, Err, IfOk, IfErr, IfSome, IsSome, is_some, refl, sym, ap}
+use Rattle.std.proofs.Common.{subst, ◌∙◌, arith}
 use Rattle.cx_decode.specs.declared.ins.Ins.{Ins}
 use Rattle.cx_decode.specs.declared.op.Op.{Op}
-use Rattle.cx_decode.specs.declared.op.Op.TheVariants.{Lb, Lh, Lw, Lbu, Lhu, Sb, Sh, Sw, LrW, ScW, AmoswapW, AmoaddW, AmoxorW, AmoandW, AmoorW, AmominW, AmomaxW, AmominuW, AmomaxuW}
+use Rattle.cx_decode.specs.declared.op.Op.TheVariants.{Lb, Lh, Lw, Lbu, Lhu, Sb, Sh, Sw, LrW, ScW, AmoswapW, AmoaddW}
+use Rattle.cx_decode.specs.declared.op.Op.TheVariants.{AmoxorW, AmoandW, AmoorW, AmominW, AmomaxW, AmominuW, AmomaxuW}
 use Rattle.cx_exec.specs.Asking.{ask_of, need_of, row_ask}
 use Rattle.cx_exec.specs.Effect.{concludes, effect_of, row_effect}
 use Rattle.cx_exec.specs.Values.{values_of}
@@ -31,7 +34,8 @@ use Rattle.cx_hart.specs.Legal.{instruction}
 use Rattle.cx_hart.specs.Looks.{First, Look, Word}
 use Rattle.cx_hart.specs.Phases.{Phase, found, looks_behind, sees, unseen, ◌>>=◌}
 use Rattle.cx_hart.specs.Reaching.{reached}
-use Rattle.cx_hart.specs.Step.{Stepped as Carried, ended_in, machine_in, outcome_of, surroundings, turn_outcome, with_done}
+use Rattle.cx_hart.specs.Step.{Stepped as Carried, ended_in, machine_in, outcome_of, surroundings, turn_outcome}
+use Rattle.cx_hart.specs.Step.{with_done}
 use Rattle.cx_hart.specs.Stretches.{IsTarget}
 use Rattle.cx_hart.specs.Surroundings.{Surroundings}
 use Rattle.cx_hart.specs.Touches.{padded, part_value, touch}
@@ -49,14 +53,17 @@ use Rattle.cx_hart.specs.declared.record.Ended.{Ended}
 use Rattle.cx_hart.specs.declared.record.Ended.TheVariants as ended
 use Rattle.cx_hart.specs.declared.record.StepRec.{StepRec}
 use Rattle.cx_hart.specs.declared.record.Touch.{Touch}
-use Rattle.cx_hart.proofs.Costs.{costs, costs_append, executed_within, fetched_within, reached_within, translated_within, turn_within, within_behind}
+use Rattle.cx_hart.proofs.Costs.{costs, costs_append, executed_within, fetched_within, reached_within}
+use Rattle.cx_hart.proofs.Costs.{translated_within, turn_within, within_behind}
 use Rattle.cx_hart.proofs.Ends.{unless_kept}
 use Rattle.cx_hart.proofs.Found.{reached_target}
 use Rattle.cx_hart.proofs.Needs.{need_length}
 use Rattle.cx_hart.proofs.Padded.{take_front}
 use Rattle.cx_hart.proofs.Parts.{no_parts, one_part, touch_formed, two_parts, word_part}
 use Rattle.cx_hart.proofs.StepSizes.{carried}
-use Rattle.cx_hart.proofs.Telling.{as_many_entries, entries_in, first_after, first_append, no_word, places_costs, places_in, reads_no_first, reads_no_rest, rest_after, rest_append, seen_in, told_is, word_after, word_append}
+use Rattle.cx_hart.proofs.Telling.{as_many_entries, entries_in, first_after, first_append, no_word, places_costs}
+use Rattle.cx_hart.proofs.Telling.{places_in, reads_no_first, reads_no_rest, rest_after, rest_append, seen_in, told_is}
+use Rattle.cx_hart.proofs.Telling.{word_after, word_append}
 use Rattle.cx_hart.proofs.WalkFacts.{walk_in_faults}
 use Rattle.cx_hart.proofs.Writes.{WritesInside, turn_writes}
 
@@ -98,17 +105,24 @@ Parts looks = AreParts (first_after looks None) (rest_after looks None)
 
 parts_after : (xs ys : List Look) → reads xs ≤ 0 → Parts ys → Parts (xs ++ ys)
 parts_after xs ys none parts =
-    let first : first_after (xs ++ ys) None ≡ first_after ys None = first_append xs ys None ∙ ap (first_after ys) (reads_no_first xs None none) in
-    let rest : rest_after (xs ++ ys) None ≡ rest_after ys None = rest_append xs ys None ∙ ap (rest_after ys) (reads_no_rest xs None none) in
-    subst (λ o. AreParts o (rest_after (xs ++ ys) None)) (sym first) (subst (λ o. AreParts (first_after ys None) o) (sym rest) parts)
+    let first : first_after (xs ++ ys) None ≡ first_after ys None = first_append xs ys None
+    ∙ ap (first_after ys) (reads_no_first xs None none) in
+    let rest : rest_after (xs ++ ys) None ≡ rest_after ys None = rest_append xs ys None
+    ∙ ap (rest_after ys) (reads_no_rest xs None none) in
+    subst (λ o. AreParts o (rest_after (xs ++ ys) None)) (sym first) (subst (λ o. AreParts (first_after ys None) o)
+    (sym rest) parts)
 
 parts_before : (xs ys : List Look) → reads ys ≤ 0 → Parts xs → Parts (xs ++ ys)
 parts_before xs ys none parts =
-    let first : first_after (xs ++ ys) None ≡ first_after xs None = first_append xs ys None ∙ reads_no_first ys (first_after xs None) none in
-    let rest : rest_after (xs ++ ys) None ≡ rest_after xs None = rest_append xs ys None ∙ reads_no_rest ys (rest_after xs None) none in
-    subst (λ o. AreParts o (rest_after (xs ++ ys) None)) (sym first) (subst (λ o. AreParts (first_after xs None) o) (sym rest) parts)
+    let first : first_after (xs ++ ys) None ≡ first_after xs None = first_append xs ys None
+    ∙ reads_no_first ys (first_after xs None) none in
+    let rest : rest_after (xs ++ ys) None ≡ rest_after xs None = rest_append xs ys None
+    ∙ reads_no_rest ys (rest_after xs None) none in
+    subst (λ o. AreParts o (rest_after (xs ++ ys) None)) (sym first) (subst (λ o. AreParts (first_after xs None) o)
+    (sym rest) parts)
 
-behind_parts : {Y Z : Type 0} (e : End Y) (next : Y → Phase Z) → ((y : Y) → e ≡ Ok y → Parts (next y).looks) → Parts (looks_behind e next)
+behind_parts : {Y Z : Type 0} (e : End Y) (next : Y → Phase Z) → ((y : Y) → e ≡ Ok y → Parts (next y).looks)
+    → Parts (looks_behind e next)
 behind_parts (Ok y) next rest = rest y refl
 behind_parts (Err stop) next rest = no_parts
 
@@ -120,17 +134,21 @@ quiet_unseen : {Y : Type 0} (e : End Y) → Quiet (unseen e)
 quiet_unseen (Ok y) = tt
 quiet_unseen (Err stop) = omega arith
 
-quiet_more : {Z : Type 0} (e : End Z) (xs ys : List Look) → reads xs ≤ 0 → IfErr e (λ stop. reads ys ≤ 0) → IfErr e (λ stop. reads (xs ++ ys) ≤ 0)
+quiet_more : {Z : Type 0} (e : End Z) (xs ys : List Look) → reads xs ≤ 0 → IfErr e (λ stop. reads ys ≤ 0)
+    → IfErr e (λ stop. reads (xs ++ ys) ≤ 0)
 quiet_more (Ok z) xs ys one two = tt
 quiet_more (Err stop) xs ys one two = omega (arith, costs_append 0 0 1 1 xs ys)
 
-quiet_behind : {Y Z : Type 0} (looks : List Look) (e : End Y) (next : Y → Phase Z) → reads looks ≤ 0 → ((y : Y) → Quiet (next y)) → Quiet (record { looks = looks; end = e } >>= next)
+quiet_behind : {Y Z : Type 0} (looks : List Look) (e : End Y) (next : Y → Phase Z) → reads looks ≤ 0
+    → ((y : Y) → Quiet (next y)) → Quiet (record { looks = looks; end = e } >>= next)
 quiet_behind looks (Ok y) next none rest = quiet_more (next y).end looks (next y).looks none (rest y)
 quiet_behind looks (Err stop) next none rest = omega (arith, costs_append 0 0 1 1 looks [])
 
 -- where the next phase never stops, only this one does
-quiet_done : {Y Z : Type 0} (looks : List Look) (e : End Y) (next : Y → Phase Z) → IfErr e (λ stop. reads looks ≤ 0) → ((y : Y) → (z : Z) × ((next y).end ≡ Ok z)) → Quiet (record { looks = looks; end = e } >>= next)
-quiet_done looks (Ok y) next none rest = subst (λ f. IfErr f (λ stop. reads (looks ++ (next y).looks) ≤ 0)) (sym (rest y).1) tt
+quiet_done : {Y Z : Type 0} (looks : List Look) (e : End Y) (next : Y → Phase Z) → IfErr e (λ stop. reads looks ≤ 0)
+    → ((y : Y) → (z : Z) × ((next y).end ≡ Ok z)) → Quiet (record { looks = looks; end = e } >>= next)
+quiet_done looks (Ok y) next none rest = subst (λ f. IfErr f (λ stop. reads (looks ++ (next y).looks) ≤ 0))
+    (sym (rest y).1) tt
 quiet_done looks (Err stop) next none rest = omega (arith, costs_append 0 0 1 1 looks [])
 
 -- ---- what a phase is behind the fetch
@@ -144,17 +162,22 @@ unseen_behind : (e : End Retired) → IsBehind (unseen e)
 unseen_behind e = record { words = omega arith; parts = no_parts; quiet = quiet_unseen e }
 
 module _ (here : Surroundings) where
-  device_parts : (given : Option ℕ) (part : Part) → IsTarget (length here.memory) (Device part) → Parts (unseen (answered given (asked.Device part.pa)) >>= λ value. sees (First (touch part value)) (outer_reading (Bytes value) value)).looks
+  device_parts : (given : Option ℕ) (part : Part) → IsTarget (length here.memory) (Device part)
+      → Parts (unseen (answered given (asked.Device part.pa)) >>= λ value. sees (First (touch part value))
+      (outer_reading (Bytes value) value)).looks
   device_parts None part inside = no_parts
   device_parts (Some v) part inside = word_part part v inside
 
   bytes_parts : (target : Target) → IsTarget (length here.memory) target → Parts (bytes_of here target).looks
   unfolding bytes_of
   bytes_parts (Memory first None) inside = one_part first (part_value here.memory first) inside.0.length
-  bytes_parts (Memory first (Some more)) inside = two_parts (length here.memory) first more (part_value here.memory first) (part_value here.memory more) inside.0 inside.1
+  bytes_parts (Memory first (Some more)) inside =
+      two_parts (length here.memory) first more (part_value here.memory first) (part_value here.memory more) inside.0
+      inside.1
   bytes_parts (Device part) inside = device_parts here.given part inside
 
-  reading_parts : (a : Access) (target : Target) → IsTarget (length here.memory) target → Parts (reading_of here a target).looks
+  reading_parts : (a : Access) (target : Target) → IsTarget (length here.memory) target
+      → Parts (reading_of here a target).looks
   unfolding reading_of
   reading_parts access.Load target inside = bytes_parts target inside
   reading_parts access.Reserve target inside = bytes_parts target inside
@@ -162,7 +185,9 @@ module _ (here : Surroundings) where
   reading_parts access.Store target inside = no_parts
   reading_parts access.Conditional target inside = no_parts
 
-  device_quiet : (given : Option ℕ) (part : Part) → Quiet (unseen (answered given (asked.Device part.pa)) >>= λ value. sees (First (touch part value)) (outer_reading (Bytes value) value))
+  device_quiet : (given : Option ℕ) (part : Part)
+      → Quiet (unseen (answered given (asked.Device part.pa)) >>= λ value. sees (First (touch part value))
+      (outer_reading (Bytes value) value))
   device_quiet None part = omega arith
   device_quiet (Some v) part = tt
 
@@ -182,13 +207,15 @@ module _ (here : Surroundings) where
 
   module _ (i : Ins) (n : Need) (e : Some n ≡ need_of (ask_of i here.state.pc here.state.x)) where
     abbrev with_reading : Target → Reading → Phase Retired
-    with_reading target reading = unseen (instruction_effect here.state i reading.got) >>= λ effect. found (access_done here.state n.access target reading effect)
+    with_reading target reading = unseen (instruction_effect here.state i reading.got) >>= λ effect. found
+        (access_done here.state n.access target reading effect)
 
     abbrev with_target : Target → Phase Retired
     with_target target = reading_of here n.access target >>= with_reading target
 
     effect_by : (r : Result Effect Misaligned) (effect : Effect) (target : Target) (reading : Reading) → r ≡ Ok effect
-        → (z : Retired) × ((unseen (effect_or_trap r) >>= λ effect. found (access_done here.state n.access target reading effect)).end ≡ Ok z)
+        → (z : Retired) × ((unseen (effect_or_trap r) >>= λ effect. found (access_done here.state n.access target
+        reading effect)).end ≡ Ok z)
     effect_by (Ok f) effect target reading is = (_, refl)
     effect_by (Err m) effect target reading is = absurd cc
 
@@ -199,29 +226,41 @@ module _ (here : Surroundings) where
 
     effect_reads : (target : Target) (reading : Reading) → reads (with_reading target reading).looks ≤ 0
     effect_reads target reading =
-        within_behind 0 0 1 1 (instruction_effect here.state i reading.got) (λ effect. found (access_done here.state n.access target reading effect)) 0 (λ effect. omega arith)
+        within_behind 0 0 1 1 (instruction_effect here.state i reading.got)
+        (λ effect. found (access_done here.state n.access target reading effect)) 0 (λ effect. omega arith)
 
     accessed_parts : Parts (accessed here i n).looks
     unfolding accessed
     accessed_parts =
-        parts_after (reached here n).looks (looks_behind (reached here n).end with_target) (reached_within 0 0 1 1 here n)
+        parts_after (reached here n).looks (looks_behind (reached here n).end with_target)
+        (reached_within 0 0 1 1 here n)
         (behind_parts (reached here n).end with_target
         (λ target is.
-        parts_before (reading_of here n.access target).looks (looks_behind (reading_of here n.access target).end (with_reading target))
+        parts_before (reading_of here n.access target).looks (looks_behind (reading_of here n.access target).end
+        (with_reading target))
         (within_behind 0 0 1 1 (reading_of here n.access target).end (with_reading target) 0 (effect_reads target))
-        (reading_parts n.access target (reached_target here n target (need_length i here.state.pc here.state.x n e) (sym is)))))
+        (reading_parts n.access target (reached_target here n target (need_length i here.state.pc here.state.x n e)
+        (sym is)))))
 
     accessed_quiet : Quiet (accessed here i n)
     unfolding accessed
     accessed_quiet =
         quiet_behind (reached here n).looks (reached here n).end with_target (reached_within 0 0 1 1 here n)
-        (λ target. quiet_done (reading_of here n.access target).looks (reading_of here n.access target).end (with_reading target) (reading_quiet n.access target) (never_stops target))
+        (λ target. quiet_done (reading_of here n.access target).looks (reading_of here n.access target).end
+        (with_reading target) (reading_quiet n.access target) (never_stops target))
 
-  need_behind : (word : ℕ) (i : Ins) (o : Option Need) → o ≡ need_of (ask_of i here.state.pc here.state.x) → costs 0 1 0 0 (done_by_need here word i o).looks ≤ 0 → IsBehind (done_by_need here word i o)
+  need_behind : (word : ℕ) (i : Ins) (o : Option Need) → o ≡ need_of (ask_of i here.state.pc here.state.x)
+      → costs 0 1 0 0 (done_by_need here word i o).looks ≤ 0 → IsBehind (done_by_need here word i o)
   need_behind word i None e words = unseen_behind _
-  need_behind word i (Some n) e words = record { words = words; parts = accessed_parts i n e; quiet = accessed_quiet i n e }
+  need_behind word i (Some n) e words = record {
+    words = words;
+    parts = accessed_parts i n e;
+    quiet =
+        accessed_quiet i n e;
+  }
 
-  executed_behind : (word : ℕ) (i : Ins) → costs 0 1 0 0 (executed here word i).looks ≤ 0 → IsBehind (executed here word i)
+  executed_behind : (word : ℕ) (i : Ins) → costs 0 1 0 0 (executed here word i).looks ≤ 0
+      → IsBehind (executed here word i)
   unfolding executed
   executed_behind word i words = need_behind word i (need_of (ask_of i here.state.pc here.state.x)) refl words
 
@@ -261,27 +300,38 @@ module _ (here : Surroundings) where
 
   translated_not_call : IfErr (translated here Fetch here.state.pc 4).end NotCall
   unfolding translated
-  translated_not_call = place_not_call here.state.pc (walk_in here Fetch here.state.pc 4).answer (walk_in_faults here Fetch here.state.pc 4)
+  translated_not_call = place_not_call here.state.pc (walk_in here Fetch here.state.pc 4).answer
+      (walk_in_faults here Fetch here.state.pc 4)
 
   abbrev word_at_place : Place → Part
   word_at_place place = record { va = here.state.pc; pa = address_of place; len = 4 }
 
   word_formed : (place : Place) → IsWord (touch (word_at_place place) (part_value here.memory (word_at_place place)))
   unfolding touch
-  word_formed place = record { touch = touch_formed (word_at_place place) (part_value here.memory (word_at_place place)) (omega arith, omega arith); whole = refl }
+  word_formed place = record {
+    touch = touch_formed (word_at_place place) (part_value here.memory (word_at_place place))
+        (omega arith, omega arith);
+    whole = refl;
+  }
 
-  fetch_by : (looks : List Look) (e : End Place) → costs 0 1 0 0 looks ≤ 0 → IfErr e NotCall → IsFetch (record { looks = looks; end = e } >>= λ place. read_at here.memory Word (word_at_place place))
+  fetch_by : (looks : List Look) (e : End Place) → costs 0 1 0 0 looks ≤ 0 → IfErr e NotCall
+      → IsFetch (record { looks = looks; end = e } >>= λ place. read_at here.memory Word (word_at_place place))
   fetch_by looks (Ok place) none stops =
       let t : Touch = touch (word_at_place place) (part_value here.memory (word_at_place place)) in
       let is : word_after (looks ++ (Word t ∷ [])) None ≡ Some t = word_append looks (Word t ∷ []) None in
-      record { word = subst (λ o. IfSome o IsWord) (sym is) (word_formed place); some = subst IsSome (sym is) refl; stops = tt }
+      record {
+        word = subst (λ o. IfSome o IsWord) (sym is) (word_formed place);
+        some = subst IsSome (sym is) refl;
+        stops = tt;
+      }
   fetch_by looks (Err stop) none stops =
       let is : word_after (looks ++ []) None ≡ None = word_append looks [] None ∙ no_word looks None none in
       record { word = subst (λ o. IfSome o IsWord) (sym is) tt; some = tt; stops = stops }
 
   fetched_formed : IsFetch (fetched here)
   unfolding fetched
-  fetched_formed = fetch_by (translated here Fetch here.state.pc 4).looks (translated here Fetch here.state.pc 4).end (translated_within 0 1 0 0 here Fetch here.state.pc 4) translated_not_call
+  fetched_formed = fetch_by (translated here Fetch here.state.pc 4).looks (translated here Fetch here.state.pc 4).end
+      (translated_within 0 1 0 0 here Fetch here.state.pc 4) translated_not_call
 
   -- ---- the turn
 
@@ -309,15 +359,18 @@ module _ (here : Surroundings) where
   stop_fits (Interrupt number) o never = tt
   stop_fits (Trap cause tval) o never = λ call. absurd (never call)
 
-  turn_by : (looks : List Look) (e : End ℕ) → reads looks ≤ 0 → IsFetch (record { looks = looks; end = e }) → IsTurn (record { looks = looks; end = e } >>= with_word)
+  turn_by : (looks : List Look) (e : End ℕ) → reads looks ≤ 0 → IsFetch (record { looks = looks; end = e })
+      → IsTurn (record { looks = looks; end = e } >>= with_word)
   turn_by looks (Ok w) none fetch =
       let rest = word_behind w in
-      let is : word_after (looks ++ (with_word w).looks) None ≡ word_after looks None = word_append looks (with_word w).looks None ∙ no_word (with_word w).looks (word_after looks None) rest.words in
+      let is : word_after (looks ++ (with_word w).looks) None ≡ word_after looks None =
+      word_append looks (with_word w).looks None ∙ no_word (with_word w).looks (word_after looks None) rest.words in
       record {
         word = subst (λ o. IfSome o IsWord) (sym is) fetch.word;
         parts = parts_after looks (with_word w).looks none rest.parts;
         quiet = quiet_more (with_word w).end looks (with_word w).looks none rest.quiet;
-        fits = some_fits (with_word w).end (word_after (looks ++ (with_word w).looks) None) (subst IsSome (sym is) fetch.some);
+        fits = some_fits (with_word w).end (word_after (looks ++ (with_word w).looks) None)
+            (subst IsSome (sym is) fetch.some);
       }
   turn_by looks (Err stop) none fetch =
       let is : word_after (looks ++ []) None ≡ word_after looks None = word_append looks [] None in
@@ -334,7 +387,8 @@ module _ (here : Surroundings) where
 
   turn_formed : IsTurn (turn here)
   unfolding turn
-  turn_formed = uninterrupted_formed (pending_of here.state) (fetched_and_executed here) (turn_by (fetched here).looks (fetched here).end (fetched_within 0 0 1 1 here) fetched_formed)
+  turn_formed = uninterrupted_formed (pending_of here.state) (fetched_and_executed here)
+      (turn_by (fetched here).looks (fetched here).end (fetched_within 0 0 1 1 here) fetched_formed)
 
   -- ---- the record
 
@@ -345,27 +399,66 @@ module _ (here : Surroundings) where
     places_padded : padded 6 (places_in looks) ≡ padded 6 (take (length (places_in looks)) (padded 6 (places_in looks)))
     places_padded = ap (padded 6) (sym (take_front (places_in looks) _))
 
-    entries_padded : padded 6 (entries_in looks) ≡ padded 6 (take (length (places_in looks)) (padded 6 (entries_in looks)))
-    entries_padded = ap (padded 6) (sym (subst (λ n. take n (padded 6 (entries_in looks)) ≡ entries_in looks) (as_many_entries looks) (take_front (entries_in looks) _)))
+    entries_padded : padded 6 (entries_in looks)
+        ≡ padded 6 (take (length (places_in looks)) (padded 6 (entries_in looks)))
+    entries_padded = ap (padded 6) (sym (subst (λ n. take n (padded 6 (entries_in looks)) ≡ entries_in looks)
+        (as_many_entries looks) (take_front (entries_in looks) _)))
 
     stopped : (end : Ended) → reads looks ≤ 0 → HasNothing (record seen { ended = end })
-    stopped end none = record { read = reads_no_first looks None none; read_more = reads_no_rest looks None none; write = refl; write_more = refl; value = refl; result = refl }
+    stopped end none = record {
+      read = reads_no_first looks None none;
+      read_more = reads_no_rest looks None none;
+      write = refl;
+      write_more = refl;
+      value = refl;
+      result = refl;
+    }
 
-    record_formed : (e : End Retired) (m after : MachineState) (rec : StepRec) → IsTurn (record { looks = looks; end = e }) → IfOk e (λ r. AreParts r.write r.write_more) → ended_in m seen e ≡ Carried after rec → IsWellFormed rec
+    record_formed : (e : End Retired) (m after : MachineState) (rec : StepRec)
+        → IsTurn (record { looks = looks; end = e }) → IfOk e (λ r. AreParts r.write r.write_more)
+        → ended_in m seen e ≡ Carried after rec → IsWellFormed rec
     record_formed (Ok r) m after rec is writes e =
         let same : with_done r seen ≡ rec = cc in
-        subst IsWellFormed same (record { walked = few; places = places_padded; entries = entries_padded; fetch = is.word; reads = is.parts; writes = writes; parts = is.fits })
+        subst IsWellFormed same (record {
+          walked = few;
+          places = places_padded;
+          entries = entries_padded;
+          fetch =
+              is.word;
+          reads = is.parts;
+          writes = writes;
+          parts = is.fits;
+        })
     record_formed (Err (Asks what)) m after rec is writes e = absurd cc
     record_formed (Err (Interrupt number)) m after rec is writes e =
         let same : ◌≡◌ {A = StepRec} (record seen { ended = ended.Interrupt number }) rec = cc in
         subst IsWellFormed same
-        (record { walked = few; places = places_padded; entries = entries_padded; fetch = is.word; reads = is.parts; writes = no_parts; parts = stopped (ended.Interrupt number) is.quiet })
+        (record {
+          walked = few;
+          places = places_padded;
+          entries = entries_padded;
+          fetch = is.word;
+          reads =
+              is.parts;
+          writes = no_parts;
+          parts = stopped (ended.Interrupt number) is.quiet;
+        })
     record_formed (Err (Trap cause tval)) m after rec is writes e =
         let same : ◌≡◌ {A = StepRec} (record seen { ended = ended.Trap cause }) rec = cc in
         subst IsWellFormed same
-        (record { walked = few; places = places_padded; entries = entries_padded; fetch = is.word; reads = is.parts; writes = no_parts; parts = (stopped (ended.Trap cause) is.quiet, is.fits) })
+        (record {
+          walked = few;
+          places = places_padded;
+          entries = entries_padded;
+          fetch = is.word;
+          reads =
+              is.parts;
+          writes = no_parts;
+          parts = (stopped (ended.Trap cause) is.quiet, is.fits);
+        })
 
-  writes_of : (e : End Retired) → IfOk e (WritesInside (length here.memory)) → IfOk e (λ r. AreParts r.write r.write_more)
+  writes_of : (e : End Retired) → IfOk e (WritesInside (length here.memory))
+      → IfOk e (λ r. AreParts r.write r.write_more)
   writes_of (Ok r) inside = inside.parts
   writes_of (Err stop) inside = tt
 
@@ -373,11 +466,15 @@ module _ (here : Surroundings) where
   unfolding turn_outcome
   outcome_formed after rec e =
       let phase : Phase Retired = turn here in
-      let ends : outcome_of (machine_in here) phase ≡ Carried after rec = unless_kept here.given (outcome_of (machine_in here) phase) after rec e in
+      let ends : outcome_of (machine_in here) phase ≡ Carried after rec =
+      unless_kept here.given (outcome_of (machine_in here) phase) after rec e in
       let six = turn_within 1 0 0 0 here in
       let seen_so : ended_in (machine_in here) (seen_in here.state phase.looks) phase.end ≡ Carried after rec =
       ap (λ old. ended_in (machine_in here) old phase.end) (sym (told_is phase.looks here.state six)) ∙ ends in
-      record_formed phase.looks (omega (arith, places_costs phase.looks, six)) phase.end (machine_in here) after rec turn_formed (writes_of phase.end (turn_writes here)) seen_so
+      record_formed phase.looks (omega (arith, places_costs phase.looks, six)) phase.end (machine_in here) after rec
+      turn_formed (writes_of phase.end (turn_writes here)) seen_so
 
-pub well_formed : (split : Bool) (m : MachineState) (due : Due) (then : Stepped StepRec) → hart_step split m due ≡ Some then → IsWellFormed then.rec
-well_formed split m due then e = outcome_formed (surroundings split due (after_transfers due.transfers m)) then.machine then.rec (carried split m due then e)
+pub well_formed : (split : Bool) (m : MachineState) (due : Due) (then : Stepped StepRec)
+    → hart_step split m due ≡ Some then → IsWellFormed then.rec
+well_formed split m due then e = outcome_formed (surroundings split due (after_transfers due.transfers m)) then.machine
+    then.rec (carried split m due then e)

@@ -1,6 +1,8 @@
--- What an instruction retires with can be carried out and keeps the rules of the state, and a turn that ends early ends in
--- a cause of the hart.
-use Rattle.std.proofs.Common.{◌≡◌, ℕ, zero, suc, ◌-◌, ◌*◌, ◌/◌, ◌%◌, ◌^◌, ◌<◌, ◌⊎◌, inl, inr, Bool, true, false, cond, nat_eq, List, [], ◌∷◌, ◌++◌, length, replicate, Option, None, Some, Result, Ok, Err, IfOk, IfSome, refl, subst, arith}
+-- What an instruction retires with can be carried out and keeps the rules of the state, and a turn that ends early ends
+-- in a cause of the hart.
+use Rattle.std.proofs.Common.{◌≡◌, ℕ, zero, suc, ◌-◌, ◌*◌, ◌/◌, ◌%◌, ◌^◌, ◌<◌, ◌⊎◌, inl, inr, Bool, true, false, cond}
+use Rattle.std.proofs.Common.{nat_eq, List, [], ◌∷◌, ◌++◌, length, replicate, Option, None, Some, Result, Ok, Err, IfOk}
+use Rattle.std.proofs.Common.{IfSome, refl, subst, arith}
 use Rattle.std.specs.Prelude.{slice_index}
 use Rattle.std.specs.Option.{option_map}
 use borrow.Author.Tests.{eqb-true}
@@ -22,7 +24,8 @@ use Rattle.cx_walk.specs.Walks.{IsFound}
 use Rattle.cx_walk.proofs.Branches.{either}
 use Rattle.cx_machine.specs.Machine.{pages_of}
 use Rattle.cx_map.specs.Bytes.{AreBytes}
-use Rattle.cx_hart.specs.Accesses.{access_done, accessed, bytes_of, first_place, first_write, outcome_at, outer_reading, reading_of, reservation_after, second_write, second_write_of}
+use Rattle.cx_hart.specs.Accesses.{access_done, accessed, bytes_of, first_place, first_write, outcome_at, outer_reading}
+use Rattle.cx_hart.specs.Accesses.{reading_of, reservation_after, second_write, second_write_of}
 use Rattle.cx_hart.specs.Effects.{instruction_effect}
 use Rattle.cx_hart.specs.Ends.{End, answered, found, ◌>>=◌}
 use Rattle.cx_hart.specs.Fetch.{place_or_trap, translated, walk_in}
@@ -85,16 +88,19 @@ device_writable : (size : ℕ) (part : Part) (value : ℕ) → IsOutside part.pa
 unfolding touch
 device_writable size part value outside = record { ram = λ low. absurd (omega (arith, outside.below)) }
 
-pub first_writable : (size : ℕ) (target : Target) (w : Option ℕ) → IsTarget size target → IfSome (option_map (first_write target) w) (IsWritable size)
+pub first_writable : (size : ℕ) (target : Target) (w : Option ℕ) → IsTarget size target
+    → IfSome (option_map (first_write target) w) (IsWritable size)
 first_writable size target None inside = tt
 first_writable size (Memory first more) (Some v) inside = touch_writable size first v inside.0
 first_writable size (Device part) (Some v) inside = device_writable size part v inside
 
-rest_writable : (size : ℕ) (first : Part) (more : Option Part) (v : ℕ) → IfSome more (IsRest size first) → IfSome (second_write (Memory first more) v) (IsWritable size)
+rest_writable : (size : ℕ) (first : Part) (more : Option Part) (v : ℕ) → IfSome more (IsRest size first)
+    → IfSome (second_write (Memory first more) v) (IsWritable size)
 rest_writable size first None v rest = tt
 rest_writable size first (Some part) v rest = touch_writable size part (v / 2 ^ (8 * first.len)) rest.inside
 
-pub second_writable : (size : ℕ) (target : Target) (w : Option ℕ) → IsTarget size target → IfSome (second_write_of target w) (IsWritable size)
+pub second_writable : (size : ℕ) (target : Target) (w : Option ℕ) → IsTarget size target
+    → IfSome (second_write_of target w) (IsWritable size)
 second_writable size target None inside = tt
 second_writable size (Memory first more) (Some v) inside = rest_writable size first more v inside.1
 second_writable size (Device part) (Some v) inside = tt
@@ -119,14 +125,16 @@ joined_fit (x ∷ xs) ys one two (suc k) = joined_fit xs ys (λ j. one (suc j)) 
 
 touch_bytes : (part : Part) (value : ℕ) → AreBytes (touch part value).bytes
 unfolding touch
-touch_bytes part value = joined_fit (low_bytes part.len value) (replicate (4 - length (low_bytes part.len value)) 0) (low_bytes_fit part.len value) (zeros_fit (4 - length (low_bytes part.len value)))
+touch_bytes part value = joined_fit (low_bytes part.len value) (replicate (4 - length (low_bytes part.len value)) 0)
+    (low_bytes_fit part.len value) (zeros_fit (4 - length (low_bytes part.len value)))
 
 first_bytes : (target : Target) (w : Option ℕ) → IfSome (option_map (first_write target) w) (λ t. AreBytes t.bytes)
 first_bytes target None = tt
 first_bytes (Memory first more) (Some v) = touch_bytes first v
 first_bytes (Device part) (Some v) = touch_bytes part v
 
-rest_bytes : (first : Part) (more : Option Part) (v : ℕ) → IfSome (second_write (Memory first more) v) (λ t. AreBytes t.bytes)
+rest_bytes : (first : Part) (more : Option Part) (v : ℕ)
+    → IfSome (second_write (Memory first more) v) (λ t. AreBytes t.bytes)
 rest_bytes first None v = tt
 rest_bytes first (Some part) v = touch_bytes part (v / 2 ^ (8 * first.len))
 
@@ -137,7 +145,8 @@ second_bytes (Device part) (Some v) = tt
 
 -- ---- an access
 
-module _ (pages : ℕ) (here : Surroundings) (k : Keeps pages here.state) (bytes : AreBytes here.memory) (fits : FitsGiven here.given) where
+module _ (pages : ℕ) (here : Surroundings) (k : Keeps pages here.state) (bytes : AreBytes here.memory)
+    (fits : FitsGiven here.given) where
   abbrev IsReading : Reading → Type 0
   IsReading reading = got_number reading.got < 2 ^ 32
 
@@ -146,7 +155,9 @@ module _ (pages : ℕ) (here : Surroundings) (k : Keeps pages here.state) (bytes
   bytes_come (Memory first None) inside = narrow_fits here.memory first bytes inside.0.length.1
   bytes_come (Memory first (Some more)) inside = joined_fits here.memory first more bytes inside.1.whole
   bytes_come (Device part) inside =
-      comes_bind (λ v. v < 2 ^ 32) IsReading (answered here.given (asked.Device part.pa)) (λ value. found (outer_reading (Bytes value) value)) (answered_comes here.given (asked.Device part.pa) fits) (λ v small. small)
+      comes_bind (λ v. v < 2 ^ 32) IsReading (answered here.given (asked.Device part.pa))
+      (λ value. found (outer_reading (Bytes value) value)) (answered_comes here.given (asked.Device part.pa) fits)
+      (λ v small. small)
 
   outcome_fits : (r : Option ℕ) (p : ℕ) → outcome_at r p < 2 ^ 32
   outcome_fits None p = omega arith
@@ -156,7 +167,8 @@ module _ (pages : ℕ) (here : Surroundings) (k : Keeps pages here.state) (bytes
       by true = omega arith
       by false = omega arith
 
-  reading_comes : (a : Access) (target : Target) → IsTarget (length here.memory) target → Comes IsReading (reading_of here a target).end
+  reading_comes : (a : Access) (target : Target) → IsTarget (length here.memory) target
+      → Comes IsReading (reading_of here a target).end
   unfolding reading_of
   reading_comes access.Load target inside = bytes_come target inside
   reading_comes access.Reserve target inside = bytes_come target inside
@@ -168,21 +180,30 @@ module _ (pages : ℕ) (here : Surroundings) (k : Keeps pages here.state) (bytes
   abbrev Reserves : Access → Target → Type 0
   Reserves a target = a ≡ access.Reserve → IsPlace (pages_of here.memory) (first_place target)
 
-  reserve_at : (n : Need) (r : Result Place ℕ) → n.access ≡ access.Reserve → n.len ≡ 4 → IfOk r (IsFound (pages_of here.memory) (kind_of n.access) n.len)
-      → IfOk (place_or_trap n.va r >>= λ place. found (target_at n place)) (λ target. IsPlace (pages_of here.memory) (first_place target))
+  reserve_at : (n : Need) (r : Result Place ℕ) → n.access ≡ access.Reserve → n.len ≡ 4
+      → IfOk r (IsFound (pages_of here.memory) (kind_of n.access) n.len)
+      → IfOk (place_or_trap n.va r >>= λ place. found (target_at n place)) (λ target. IsPlace (pages_of here.memory)
+      (first_place target))
   reserve_at n (Err cause) is four found = tt
   reserve_at n (Ok (place.Ram pa)) is four found =
-      record { inside = record { low = found.inside.low; high = omega (arith, found.inside.high, four) }; multiple = subst (λ len. pa % len ≡ 0) four found.aligned }
+      record {
+        inside = record { low = found.inside.low; high = omega (arith, found.inside.high, four) };
+        multiple =
+            subst (λ len. pa % len ≡ 0) four found.aligned;
+      }
   reserve_at n (Ok (place.Device pa)) is four found =
       let plain = subst (λ a. (kind_of a ≡ kind.Load) ⊎ (kind_of a ≡ kind.Store)) is found.plain in
       elim plain [ inl e ↦ absurd cc | inr e ↦ absurd cc ]
 
-  reserve_whole : (n : Need) → n.access ≡ access.Reserve → n.len ≡ 4 → n.va % n.len ≡ 0 → IfOk (reached_whole here n).end (λ target. IsPlace (pages_of here.memory) (first_place target))
+  reserve_whole : (n : Need) → n.access ≡ access.Reserve → n.len ≡ 4 → n.va % n.len ≡ 0
+      → IfOk (reached_whole here n).end (λ target. IsPlace (pages_of here.memory) (first_place target))
   unfolding reached_whole translated
   reserve_whole n is four aligned =
-      reserve_at n (walk_in here (kind_of n.access) n.va n.len).answer is four (walk_in_found here (kind_of n.access) n.va n.len (inr (inr four)) aligned)
+      reserve_at n (walk_in here (kind_of n.access) n.va n.len).answer is four (walk_in_found here (kind_of n.access)
+      n.va n.len (inr (inr four)) aligned)
 
-  reserve_reached : (n : Need) → n.access ≡ access.Reserve → n.len ≡ 4 → IfOk (reached here n).end (λ target. IsPlace (pages_of here.memory) (first_place target))
+  reserve_reached : (n : Need) → n.access ≡ access.Reserve → n.len ≡ 4
+      → IfOk (reached here n).end (λ target. IsPlace (pages_of here.memory) (first_place target))
   unfolding reached
   reserve_reached n is four =
       let P : Phase Target → Type 0 = λ p. IfOk p.end (λ target. IsPlace (pages_of here.memory) (first_place target)) in
@@ -194,21 +215,31 @@ module _ (pages : ℕ) (here : Surroundings) (k : Keeps pages here.state) (bytes
       never false n is = refl
       never true n is = rw is refl
 
-  reserves_of : (n : Need) (p : End Target) → (n.access ≡ access.Reserve → IfOk p (λ target. IsPlace (pages_of here.memory) (first_place target))) → IfOk p (λ target. Reserves n.access target)
+  reserves_of : (n : Need) (p : End Target)
+      → (n.access ≡ access.Reserve → IfOk p (λ target. IsPlace (pages_of here.memory) (first_place target)))
+      → IfOk p (λ target. Reserves n.access target)
   reserves_of n (Ok target) all = all
   reserves_of n (Err stop) all = tt
 
-  reservation_keeps : (a : Access) (target : Target) → pages_of here.memory ≡ pages → Reserves a target → IfSome (reservation_after a target here.state.reservation) (IsPlace pages)
+  reservation_keeps : (a : Access) (target : Target) → pages_of here.memory ≡ pages → Reserves a target
+      → IfSome (reservation_after a target here.state.reservation) (IsPlace pages)
   reservation_keeps access.Reserve target e reserves = subst (λ n. IsPlace n (first_place target)) e (reserves refl)
   reservation_keeps access.Conditional target e reserves = tt
   reservation_keeps access.Load target e reserves = k.reservation
   reservation_keeps access.Store target e reserves = k.reservation
   reservation_keeps access.Amo target e reserves = k.reservation
 
-  access_keepable : (a : Access) (target : Target) (reading : Reading) (e : Effect) → pages_of here.memory ≡ pages → IsTarget (length here.memory) target → Reserves a target → IsEffect e
+  access_keepable : (a : Access) (target : Target) (reading : Reading) (e : Effect) → pages_of here.memory ≡ pages
+      → IsTarget (length here.memory) target → Reserves a target → IsEffect e
       → IsKeepable pages (length here.memory) here.state (access_done here.state a target reading e)
   access_keepable a target reading e same inside reserves effect = record {
-    ready = record { register = effect.rd; control = tt; write = first_writable (length here.memory) target e.write inside; write_more = second_writable (length here.memory) target e.write inside };
+    ready = record {
+      register = effect.rd;
+      control = tt;
+      write = first_writable (length here.memory) target e.write
+          inside;
+      write_more = second_writable (length here.memory) target e.write inside;
+    };
     value = effect.value;
     pc = effect.pc;
     control = tt;
@@ -217,14 +248,19 @@ module _ (pages : ℕ) (here : Surroundings) (k : Keeps pages here.state) (bytes
     more_bytes = second_bytes target e.write;
   }
 
-  pub accessed_comes : (i : Ins) (n : Need) → pages_of here.memory ≡ pages → WellFormed i → IsNeed n → Comes (IsKeepable pages (length here.memory) here.state) (accessed here i n).end
+  pub accessed_comes : (i : Ins) (n : Need) → pages_of here.memory ≡ pages → WellFormed i → IsNeed n
+      → Comes (IsKeepable pages (length here.memory) here.state) (accessed here i n).end
   unfolding accessed
   accessed_comes i n same formed need =
-      comes_bind (λ target. IsTarget (length here.memory) target × Reserves n.access target) (IsKeepable pages (length here.memory) here.state) (reached here n).end _
+      comes_bind (λ target. IsTarget (length here.memory) target × Reserves n.access target)
+      (IsKeepable pages (length here.memory) here.state) (reached here n).end _
       (comes_of _ (reached here n).end
-      (both_ok (IsTarget (length here.memory)) (Reserves n.access) (reached here n).end (reached_inside here n need.length)
+      (both_ok (IsTarget (length here.memory)) (Reserves n.access) (reached here n).end
+      (reached_inside here n need.length)
       (reserves_of n (reached here n).end (λ is. reserve_reached n is (need.reserve is))))
       (reached_stops here n need.address))
-      (λ target inside. comes_bind IsReading (IsKeepable pages (length here.memory) here.state) (reading_of here n.access target).end _ (reading_comes n.access target inside.0)
-      (λ reading small. comes_bind IsEffect (IsKeepable pages (length here.memory) here.state) (instruction_effect here.state i reading.got) _ (effect_comes pages here.state i reading.got k formed small)
+      (λ target inside. comes_bind IsReading (IsKeepable pages (length here.memory) here.state)
+      (reading_of here n.access target).end _ (reading_comes n.access target inside.0)
+      (λ reading small. comes_bind IsEffect (IsKeepable pages (length here.memory) here.state)
+      (instruction_effect here.state i reading.got) _ (effect_comes pages here.state i reading.got k formed small)
       (λ e effect. access_keepable n.access target reading e same inside.0 inside.1 effect)))

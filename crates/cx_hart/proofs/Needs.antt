@@ -3,7 +3,9 @@ use Rattle.std.proofs.Common.{◌≡◌, ℕ, ◌+◌, ◌^◌, ◌<◌, ◌⊎�
 use Rattle.cx_decode.specs.WellFormed.{WellFormed}
 use Rattle.cx_decode.specs.declared.ins.Ins.{Ins}
 use Rattle.cx_decode.specs.declared.op.Op.{Op}
-use Rattle.cx_decode.specs.declared.op.Op.TheVariants.{Lb, Lh, Lw, Lbu, Lhu, Sb, Sh, Sw, LrW, ScW, AmoswapW, AmoaddW, AmoxorW, AmoandW, AmoorW, AmominW, AmomaxW, AmominuW, AmomaxuW, Csrrw, Csrrs, Csrrc, Csrrwi, Csrrsi, Csrrci}
+use Rattle.cx_decode.specs.declared.op.Op.TheVariants.{Lb, Lh, Lw, Lbu, Lhu, Sb, Sh, Sw, LrW, ScW, AmoswapW, AmoaddW}
+use Rattle.cx_decode.specs.declared.op.Op.TheVariants.{AmoxorW, AmoandW, AmoorW, AmominW, AmomaxW, AmominuW, AmomaxuW}
+use Rattle.cx_decode.specs.declared.op.Op.TheVariants.{Csrrw, Csrrs, Csrrc, Csrrwi, Csrrsi, Csrrci}
 use Rattle.cx_exec.specs.Arithmetic.{wrapped}
 use Rattle.cx_exec.specs.Asking.{ask_of, need_of, row_ask}
 use Rattle.cx_exec.specs.declared.asks.Access.TheVariants.{Reserve}
@@ -42,7 +44,8 @@ pub record IsNeed (n : Need) : Type 0 where
   pub address : n.va < 2 ^ 32
   pub reserve : n.access ≡ Reserve → n.len ≡ 4
 
-plain_need : (v : Values) (n : Need) → IsLength n.len → n.va ≡ wrapped (v.a + v.imm) → (n.access ≡ Reserve → n.len ≡ 4) → IsNeed n
+plain_need : (v : Values) (n : Need) → IsLength n.len → n.va ≡ wrapped (v.a + v.imm) → (n.access ≡ Reserve → n.len ≡ 4)
+    → IsNeed n
 plain_need v n length e reserve = record { length = length; address = omega (arith, e); reserve = reserve }
 
 word_need : (v : Values) (n : Need) → v.a < 2 ^ 32 → n.len ≡ 4 → n.va ≡ v.a → IsNeed n
@@ -71,7 +74,8 @@ row_need AmomaxuW v small = word_need v _ small refl refl
 row_need op v small = tt
 
 -- the access of an instruction has 1, 2 or 4 bytes
-pub need_length : (i : Ins) (pc : ℕ) (regs : List ℕ) (n : Need) → Some n ≡ need_of (ask_of i pc regs) → (n.len ≡ 1) ⊎ (n.len ≡ 2) ⊎ (n.len ≡ 4)
+pub need_length : (i : Ins) (pc : ℕ) (regs : List ℕ) (n : Need) → Some n ≡ need_of (ask_of i pc regs) → (n.len ≡ 1)
+    ⊎ (n.len ≡ 2) ⊎ (n.len ≡ 4)
 need_length i pc regs n e = subst (λ o. IfSome o (λ m. IsLength m.len)) (sym e) (row_length i.op _)
 
 row_number : (i : Ins) (op : Op) (v : Values) → i.op ≡ op → WellFormed i → row_ask op v ≡ Csr → i.imm < 2 ^ 12

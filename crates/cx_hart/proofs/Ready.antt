@@ -1,5 +1,6 @@
 -- What a turn finds can be carried out, and keeps the rules of the state.
-use Rattle.std.proofs.Common.{◌≡◌, ℕ, zero, suc, ◌+◌, ◌-◌, ◌*◌, ◌%◌, ◌^◌, ◌<◌, ◌≤◌, Bool, true, false, cond, nat_eq, nat_lt, List, length, All, Result, Ok, Err, refl, ap, ◌∙◌, arith}
+use Rattle.std.proofs.Common.{◌≡◌, ℕ, zero, suc, ◌+◌, ◌-◌, ◌*◌, ◌%◌, ◌^◌, ◌<◌, ◌≤◌, Bool, true, false, cond, nat_eq}
+use Rattle.std.proofs.Common.{nat_lt, List, length, All, Result, Ok, Err, refl, ap, ◌∙◌, arith}
 use Rattle.std.specs.Prelude.{slice_index}
 use Rattle.std.proofs.lemmas.Nat.{pow-add}
 use Rattle.std.proofs.Math.Nat.{mul-le-mul_left, mul-suc, pow-le-pow_right}
@@ -10,7 +11,9 @@ use Rattle.cx_csr.specs.Keeps.{Keeps}
 use Rattle.cx_decode.specs.Table.{row_of}
 use Rattle.cx_decode.specs.WellFormed.{IsSigned, Spells, WellFormed}
 use Rattle.cx_decode.specs.declared.format.Format.{Format}
-use Rattle.cx_decode.specs.declared.format.Format.TheVariants.{Register, Immediate, Shift, Store, Branch, Upper, Jump, Fence, Control, ControlImmediate, Plain, Translation, Reserve, Atomic}
+use Rattle.cx_decode.specs.declared.format.Format.TheVariants.{Register, Immediate, Shift, Store, Branch, Upper, Jump}
+use Rattle.cx_decode.specs.declared.format.Format.TheVariants.{Fence, Control, ControlImmediate, Plain, Translation}
+use Rattle.cx_decode.specs.declared.format.Format.TheVariants.{Reserve, Atomic}
 use Rattle.cx_decode.specs.declared.ins.Ins.{Ins}
 use Rattle.cx_exec.specs.Effect.{effect_of}
 use Rattle.cx_exec.specs.declared.effect.Effect.{Effect}
@@ -29,12 +32,14 @@ use Rattle.cx_hart.proofs.Stops.{Comes}
 
 -- ---- operands
 
-extended_fits : (power imm : ℕ) (b : Bool) → 0 < power → power ≤ 2 ^ 32 → cond b (imm % power) (imm % power + (2 ^ 32 - power)) ≡ imm → imm < 2 ^ 32
+extended_fits : (power imm : ℕ) (b : Bool) → 0 < power → power ≤ 2 ^ 32
+    → cond b (imm % power) (imm % power + (2 ^ 32 - power)) ≡ imm → imm < 2 ^ 32
 extended_fits power imm true some most e = omega arith
 extended_fits power imm false some most e = let h : imm % power < power = omega arith in omega arith
 
 signed_fits : (width imm : ℕ) → 0 < 2 ^ width → 2 ^ width ≤ 2 ^ 32 → IsSigned width imm → imm < 2 ^ 32
-signed_fits width imm some most e = extended_fits (2 ^ width) imm (nat_lt (imm % 2 ^ width) (2 ^ (width - 1))) some most e
+signed_fits width imm some most e = extended_fits (2 ^ width) imm (nat_lt (imm % 2 ^ width) (2 ^ (width - 1))) some most
+    e
 
 pub formed_rs1 : (f : Format) (rd rs1 rs2 imm : ℕ) → Spells f rd rs1 rs2 imm → rs1 < 32
 formed_rs1 Register rd rs1 rs2 imm (a, b, c, d) = b
@@ -80,7 +85,8 @@ register_fits x n true wide = omega arith
 register_fits x n false wide = register_fits_at x n wide
 
 -- the values of a well-formed instruction in a state that keeps the rules
-pub values_in_range : (pages : ℕ) (s : State) (i : Ins) (got : Got) → Keeps pages s → WellFormed i → got_number got < 2 ^ 32 → InRange (values_of i s.pc s.x got)
+pub values_in_range : (pages : ℕ) (s : State) (i : Ins) (got : Got) → Keeps pages s → WellFormed i
+    → got_number got < 2 ^ 32 → InRange (values_of i s.pc s.x got)
 values_in_range pages s i got k formed small =
     let operands = formed_fits (row_of i.op).format i.rd i.rs1 i.rs2 i.imm formed in
     record {
@@ -96,14 +102,17 @@ outcome_comes : (r : Result Effect Misaligned) → IsOutcome r → Comes IsEffec
 outcome_comes (Ok e) is = is
 outcome_comes (Err misaligned) is = (refl, is)
 
-pub effect_comes : (pages : ℕ) (s : State) (i : Ins) (got : Got) → Keeps pages s → WellFormed i → got_number got < 2 ^ 32 → Comes IsEffect (instruction_effect s i got)
+pub effect_comes : (pages : ℕ) (s : State) (i : Ins) (got : Got) → Keeps pages s → WellFormed i
+    → got_number got < 2 ^ 32 → Comes IsEffect (instruction_effect s i got)
 effect_comes pages s i got k formed small =
-    outcome_comes (effect_of i s.pc s.x got) (row_fits (values_of i s.pc s.x got) (values_in_range pages s i got k formed small) i.op)
+    outcome_comes (effect_of i s.pc s.x got) (row_fits (values_of i s.pc s.x got)
+    (values_in_range pages s i got k formed small) i.op)
 
 -- ---- bytes of RAM
 
 value_fits_in : (memory : List ℕ) (part : Part) → AreBytes memory → part_value memory part < 2 ^ (8 * part.len)
-value_fits_in memory part bytes = loaded-fits memory (ram_index part.pa) part.len (λ k below. bytes (ram_index part.pa + k))
+value_fits_in memory part bytes =
+    loaded-fits memory (ram_index part.pa) part.len (λ k below. bytes (ram_index part.pa + k))
 
 wider : (n a b : ℕ) → a ≤ b → n < 2 ^ (8 * a) → n < 2 ^ (8 * b)
 wider n a b le fits =
@@ -112,7 +121,8 @@ wider n a b le fits =
     let more : 2 ^ (8 * a) ≤ 2 ^ (8 * b) = pow-le-pow_right some longer in
     omega arith
 
-two_parts_fit : (low high a b : ℕ) → low < 2 ^ (8 * a) → high < 2 ^ (8 * b) → low + 2 ^ (8 * a) * high < 2 ^ (8 * (a + b))
+two_parts_fit : (low high a b : ℕ) → low < 2 ^ (8 * a) → high < 2 ^ (8 * b)
+    → low + 2 ^ (8 * a) * high < 2 ^ (8 * (a + b))
 two_parts_fit low high a b one two =
     let sum : 8 * (a + b) ≡ 8 * a + 8 * b = omega arith in
     let whole : 2 ^ (8 * (a + b)) ≡ 2 ^ (8 * a) * 2 ^ (8 * b) = ap (λ n. 2 ^ n) sum ∙ pow-add 2 (8 * a) (8 * b) in
@@ -123,7 +133,9 @@ two_parts_fit low high a b one two =
 pub narrow_fits : (memory : List ℕ) (part : Part) → AreBytes memory → part.len ≤ 4 → part_value memory part < 2 ^ 32
 narrow_fits memory part bytes most = wider (part_value memory part) part.len 4 most (value_fits_in memory part bytes)
 
-pub joined_fits : (memory : List ℕ) (first more : Part) → AreBytes memory → first.len + more.len ≤ 4 → joined first (part_value memory first) (part_value memory more) < 2 ^ 32
+pub joined_fits : (memory : List ℕ) (first more : Part) → AreBytes memory → first.len + more.len ≤ 4
+    → joined first (part_value memory first) (part_value memory more) < 2 ^ 32
 joined_fits memory first more bytes whole =
     wider (joined first (part_value memory first) (part_value memory more)) (first.len + more.len) 4 whole
-    (two_parts_fit (part_value memory first) (part_value memory more) first.len more.len (value_fits_in memory first bytes) (value_fits_in memory more bytes))
+    (two_parts_fit (part_value memory first) (part_value memory more) first.len more.len
+    (value_fits_in memory first bytes) (value_fits_in memory more bytes))

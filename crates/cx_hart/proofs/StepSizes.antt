@@ -1,6 +1,7 @@
 -- Whatever the state, a step that is carried out keeps the length of memory and leaves the lines that are due, or those
 -- that stood.
-use Rattle.std.proofs.Common.{◌≡◌, ℕ, Bool, true, false, cond, nat_le, List, [], ◌∷◌, length, take, Option, None, Some, Ok, Err, IfOk, IfSome, unwrap_or, refl, sym, subst, ap, ◌∙◌, arith}
+use Rattle.std.proofs.Common.{◌≡◌, ℕ, Bool, true, false, cond, nat_le, List, [], ◌∷◌, length, take, Option, None, Some}
+use Rattle.std.proofs.Common.{Ok, Err, IfOk, IfSome, unwrap_or, refl, sym, subst, ap, ◌∙◌, arith}
 use borrow.Author.Tests.{leb-true}
 use Rattle.std.proofs.lemmas.List.{length-take}
 use Rattle.std.proofs.lemmas.List.Elements.{All-head, All-tail}
@@ -18,10 +19,12 @@ use Rattle.cx_ram.specs.LittleEndian.{written}
 use Rattle.cx_ram.proofs.LoadsAndWrites.{length-written}
 use Rattle.cx_trap.specs.Enter.{entered, into_machine, into_supervisor, is_delegated}
 use Rattle.cx_trap.specs.Return.{after_mret, after_sret}
-use Rattle.cx_hart.specs.After.{after_control, after_retired, after_trap, interrupt_cause, memory_after, memory_after_touch}
+use Rattle.cx_hart.specs.After.{after_control, after_retired, after_trap, interrupt_cause, memory_after}
+use Rattle.cx_hart.specs.After.{memory_after_touch}
 use Rattle.cx_hart.specs.Ends.{End}
 use Rattle.cx_hart.specs.HartStep.{carried_out, hart_step}
-use Rattle.cx_hart.specs.Step.{NeedsValue, Outcome, Stepped as Carried, ValueLeft, ended_in, machine_in, outcome_of, step, surroundings, turn_outcome}
+use Rattle.cx_hart.specs.Step.{NeedsValue, Outcome, Stepped as Carried, ValueLeft, ended_in, machine_in, outcome_of}
+use Rattle.cx_hart.specs.Step.{step, surroundings, turn_outcome}
 use Rattle.cx_hart.specs.Stretches.{IsWritable}
 use Rattle.cx_hart.specs.Surroundings.{Surroundings}
 use Rattle.cx_hart.specs.Turn.{turn}
@@ -65,21 +68,26 @@ retired_lines r s = control_lines r.control s
 
 -- ---- what an instruction writes
 
-touch_sizes_by : (memory : List ℕ) (t : Touch) (b : Bool) → nat_le RAM_START t.pa ≡ b → IsWritable (length memory) t → length (cond b (written memory (ram_index t.pa) (take t.len t.bytes)) memory) ≡ length memory
+touch_sizes_by : (memory : List ℕ) (t : Touch) (b : Bool) → nat_le RAM_START t.pa ≡ b → IsWritable (length memory) t
+    → length (cond b (written memory (ram_index t.pa) (take t.len t.bytes)) memory) ≡ length memory
 touch_sizes_by memory t false e writable = refl
 touch_sizes_by memory t true e writable =
     let stretch = writable.ram (leb-true _ _ e) in
-    length-written memory (ram_index t.pa) (take t.len t.bytes) (omega (arith, length-take t.len t.bytes, stretch.inside.high, stretch.inside.low))
+    length-written memory (ram_index t.pa) (take t.len t.bytes)
+    (omega (arith, length-take t.len t.bytes, stretch.inside.high, stretch.inside.low))
 
-touch_sizes : (memory : List ℕ) (o : Option Touch) → IfSome o (IsWritable (length memory)) → length (memory_after_touch o memory) ≡ length memory
+touch_sizes : (memory : List ℕ) (o : Option Touch) → IfSome o (IsWritable (length memory))
+    → length (memory_after_touch o memory) ≡ length memory
 unfolding memory_after_touch
 touch_sizes memory None writable = refl
 touch_sizes memory (Some t) writable = touch_sizes_by memory t (nat_le RAM_START t.pa) refl writable
 
-retired_sizes : (memory : List ℕ) (r : Retired) → WritesInside (length memory) r → length (memory_after r memory) ≡ length memory
+retired_sizes : (memory : List ℕ) (r : Retired) → WritesInside (length memory) r
+    → length (memory_after r memory) ≡ length memory
 retired_sizes memory r inside =
     let one = touch_sizes memory r.write inside.first in
-    touch_sizes (memory_after_touch r.write memory) r.write_more (subst (λ n. IfSome r.write_more (IsWritable n)) (sym one) inside.second) ∙ one
+    touch_sizes (memory_after_touch r.write memory) r.write_more (subst (λ n. IfSome r.write_more (IsWritable n))
+    (sym one) inside.second) ∙ one
 
 -- ---- the outcome of a turn
 
@@ -92,28 +100,34 @@ StaysIn m (NeedsValue what) = Unit {0}
 StaysIn m ValueLeft = Unit {0}
 StaysIn m (Carried after rec) = Stays m after
 
-outcome_stays : (m : MachineState) (rec : StepRec) (p : End Retired) → IfOk p (WritesInside (length m.memory)) → StaysIn m (ended_in m rec p)
+outcome_stays : (m : MachineState) (rec : StepRec) (p : End Retired) → IfOk p (WritesInside (length m.memory))
+    → StaysIn m (ended_in m rec p)
 outcome_stays m rec (Ok r) inside = record { size = retired_sizes m.memory r inside; lines = retired_lines r m.state }
 outcome_stays m rec (Err (Asks what)) inside = tt
-outcome_stays m rec (Err (Interrupt number)) inside = record { size = refl; lines = trap_lines (interrupt_cause number) 0 m.state }
+outcome_stays m rec (Err (Interrupt number)) inside =
+    record { size = refl; lines = trap_lines (interrupt_cause number) 0 m.state }
 outcome_stays m rec (Err (Trap cause tval)) inside = record { size = refl; lines = trap_lines cause tval m.state }
 
-turn_stays : (here : Surroundings) (after : MachineState) (rec : StepRec) → turn_outcome here ≡ Carried after rec → Stays (machine_in here) after
+turn_stays : (here : Surroundings) (after : MachineState) (rec : StepRec) → turn_outcome here ≡ Carried after rec
+    → Stays (machine_in here) after
 unfolding turn_outcome
 turn_stays here after rec e =
-    let ends : outcome_of (machine_in here) (turn here) ≡ Carried after rec = unless_kept here.given (outcome_of (machine_in here) (turn here)) after rec e in
+    let ends : outcome_of (machine_in here) (turn here) ≡ Carried after rec =
+    unless_kept here.given (outcome_of (machine_in here) (turn here)) after rec e in
     subst (StaysIn (machine_in here)) ends (outcome_stays (machine_in here) _ (turn here).end (turn_writes here))
 
 -- ---- transfers
 
-transfers_size : (size : ℕ) (transfers : List Transfer) (m : MachineState) → length m.memory ≡ size → AreTransfers size transfers → length (after_transfers transfers m).memory ≡ size
+transfers_size : (size : ℕ) (transfers : List Transfer) (m : MachineState) → length m.memory ≡ size
+    → AreTransfers size transfers → length (after_transfers transfers m).memory ≡ size
 transfers_size size [] m is all = is
 transfers_size size (t ∷ transfers) m is all =
     let first : IsTransfer size t = All-head (IsTransfer size) t transfers all in
     let one = length-written m.memory (ram_index t.place) t.bytes (omega (arith, first.ram.low, first.ram.high, is)) in
     transfers_size size transfers (after_transfer t m) (one ∙ is) (All-tail (IsTransfer size) t transfers all)
 
-transfers_lines : (transfers : List Transfer) (m : MachineState) → (after_transfers transfers m).state.lines ≡ m.state.lines
+transfers_lines : (transfers : List Transfer) (m : MachineState) → (after_transfers transfers m).state.lines
+    ≡ m.state.lines
 transfers_lines [] m = refl
 transfers_lines (t ∷ transfers) m = transfers_lines transfers (after_transfer t m)
 
@@ -124,9 +138,11 @@ was_step : (o : Outcome) (then : Stepped StepRec) → carried_out o ≡ Some the
 was_step (NeedsValue what) then e = absurd cc
 was_step ValueLeft then e = absurd cc
 was_step (Carried after rec) then e =
-    let is : record { machine = after; rec = rec } ≡ then = cc in ap (λ (t : Stepped StepRec). Carried t.machine t.rec) is
+    let is : record { machine = after; rec = rec } ≡ then = cc in ap (λ (t : Stepped StepRec). Carried t.machine t.rec)
+    is
 
-pub carried : (split : Bool) (m : MachineState) (due : Due) (then : Stepped StepRec) → hart_step split m due ≡ Some then → step split due m ≡ Carried then.machine then.rec
+pub carried : (split : Bool) (m : MachineState) (due : Due) (then : Stepped StepRec) → hart_step split m due ≡ Some then
+    → step split due m ≡ Carried then.machine then.rec
 unfolding hart_step
 carried split m due then e = was_step (step split due m) then e
 

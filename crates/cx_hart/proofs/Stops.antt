@@ -1,5 +1,6 @@
 -- A step that ends early ends in a cause that the hart has, and tells a word.
-use Rattle.std.proofs.Common.{ℕ, ◌+◌, ◌-◌, ◌^◌, ◌<◌, inl, inr, Option, Some, Result, Ok, Err, IfOk, IfErr, IsTrue, refl, sym, subst, arith}
+use Rattle.std.proofs.Common.{ℕ, ◌+◌, ◌-◌, ◌^◌, ◌<◌, inl, inr, Option, Some, Result, Ok, Err, IfOk, IfErr, IsTrue, refl}
+use Rattle.std.proofs.Common.{sym, subst, arith}
 use Rattle.cx_exec.specs.declared.asks.Access.{Access}
 use Rattle.cx_exec.specs.declared.asks.Access.TheVariants as access
 use Rattle.cx_exec.specs.declared.asks.Need.{Need}
@@ -13,7 +14,9 @@ use Rattle.cx_walk.proofs.Branches.{either}
 use Rattle.cx_hart.specs.Ends.{End, found, ◌>>=◌}
 use Rattle.cx_hart.specs.Fetch.{place_or_trap, translated, walk_in}
 use Rattle.cx_hart.specs.Phases.{Phase}
-use Rattle.cx_hart.specs.Reaching.{first_length, goes_on, is_naturally_aligned, is_split, kind_of, misaligned_cause, reached, reached_part, reached_rest, reached_split, reached_whole, second_address, target_at}
+use Rattle.cx_hart.specs.Reaching.{first_length, goes_on, is_naturally_aligned, is_split, kind_of, misaligned_cause}
+use Rattle.cx_hart.specs.Reaching.{reached, reached_part, reached_rest, reached_split, reached_whole, second_address}
+use Rattle.cx_hart.specs.Reaching.{target_at}
 use Rattle.cx_hart.specs.Surroundings.{Surroundings}
 use Rattle.cx_hart.specs.declared.findings.Part.{Part}
 use Rattle.cx_hart.specs.declared.findings.Stop.{Stop}
@@ -36,11 +39,13 @@ pub comes_of : {Y : Type 0} (P : Y → Type 0) (p : End Y) → IfOk p P → IfEr
 comes_of P (Ok y) good stops = good
 comes_of P (Err stop) good stops = stops
 
-pub comes_bind : {Y Z : Type 0} (P : Y → Type 0) (Q : Z → Type 0) (p : End Y) (next : Y → End Z) → Comes P p → ((y : Y) → P y → Comes Q (next y)) → Comes Q (p >>= next)
+pub comes_bind : {Y Z : Type 0} (P : Y → Type 0) (Q : Z → Type 0) (p : End Y) (next : Y → End Z) → Comes P p
+    → ((y : Y) → P y → Comes Q (next y)) → Comes Q (p >>= next)
 comes_bind P Q (Ok y) next one rest = rest y one
 comes_bind P Q (Err stop) next one rest = one
 
-pub stops_bind : {Y Z : Type 0} (p : End Y) (next : Y → End Z) → IfErr p IsStop → ((y : Y) → IfErr (next y) IsStop) → IfErr (p >>= next) IsStop
+pub stops_bind : {Y Z : Type 0} (p : End Y) (next : Y → End Z) → IfErr p IsStop → ((y : Y) → IfErr (next y) IsStop)
+    → IfErr (p >>= next) IsStop
 stops_bind (Ok y) next one rest = rest y
 stops_bind (Err stop) next one rest = one
 
@@ -65,7 +70,8 @@ misaligned_is_cause access.Reserve = refl
 misaligned_is_cause access.Conditional = refl
 misaligned_is_cause access.Amo = refl
 
-place_stops : (k : Kind) (va : ℕ) (r : Result Place ℕ) → va < 2 ^ 32 → IfErr r (IsFault k) → IfErr (place_or_trap va r) IsStop
+place_stops : (k : Kind) (va : ℕ) (r : Result Place ℕ) → va < 2 ^ 32 → IfErr r (IsFault k)
+    → IfErr (place_or_trap va r) IsStop
 place_stops k va (Ok place) small fault = tt
 place_stops k va (Err cause) small fault = (fault_is_cause k cause fault, small)
 
@@ -79,23 +85,29 @@ module _ (here : Surroundings) where
   module _ (n : Need) (small : n.va < 2 ^ 32) where
     whole_stops : IfErr (reached_whole here n).end IsStop
     unfolding reached_whole
-    whole_stops = stops_bind (translated here (kind_of n.access) n.va n.len).end (λ place. found (target_at n place)) (translated_stops (kind_of n.access) n.va n.len small) (λ place. tt)
+    whole_stops = stops_bind (translated here (kind_of n.access) n.va n.len).end (λ place. found (target_at n place))
+        (translated_stops (kind_of n.access) n.va n.len small) (λ place. tt)
 
     part_stops : (va len : ℕ) → va < 2 ^ 32 → IfErr (reached_part here n va len).end IsStop
     part_stops va len low =
-        stops_bind (translated here (kind_of n.access) va 1).end (λ place. found (record { va = va; pa = address_of place; len = len })) (translated_stops (kind_of n.access) va 1 low) (λ place. tt)
+        stops_bind (translated here (kind_of n.access) va 1).end
+        (λ place. found (record { va = va; pa = address_of place; len = len })) (translated_stops (kind_of n.access)
+        va 1 low) (λ place. tt)
 
     rest_stops : IfErr (reached_rest here n).end IsStop
     rest_stops =
         let P : Phase (Option Part) → Type 0 = λ p. IfErr p.end IsStop in
         either P (goes_on n) _ _
-        (λ on. stops_bind (reached_part here n (second_address n) (n.len - first_length n)).end (λ part. found (Some part)) (part_stops (second_address n) (n.len - first_length n) (omega arith)) (λ part. tt))
+        (λ on. stops_bind (reached_part here n (second_address n) (n.len - first_length n)).end
+        (λ part. found (Some part)) (part_stops (second_address n) (n.len - first_length n) (omega arith))
+        (λ part. tt))
         (λ ends. tt)
 
     split_stops : IfErr (reached_split here n).end IsStop
     unfolding reached_split
     split_stops =
-        stops_bind (reached_part here n n.va (first_length n)).end (λ first. (reached_rest here n).end >>= λ more. found (Memory first more)) (part_stops n.va (first_length n) small)
+        stops_bind (reached_part here n n.va (first_length n)).end (λ first. (reached_rest here n).end >>= λ more. found
+        (Memory first more)) (part_stops n.va (first_length n) small)
         (λ first. stops_bind (reached_rest here n).end (λ more. found (Memory first more)) rest_stops (λ more. tt))
 
     pub reached_stops : IfErr (reached here n).end IsStop
@@ -103,4 +115,5 @@ module _ (here : Surroundings) where
     reached_stops =
         let P : Phase Target → Type 0 = λ p. IfErr p.end IsStop in
         either P (is_naturally_aligned n) _ _ (λ aligned. whole_stops)
-        (λ apart. either P (is_split here.split n) _ _ (λ parts. split_stops) (λ traps. (misaligned_is_cause n.access, small)))
+        (λ apart. either P (is_split here.split n) _ _ (λ parts. split_stops)
+        (λ traps. (misaligned_is_cause n.access, small)))

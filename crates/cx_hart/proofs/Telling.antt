@@ -1,5 +1,6 @@
 -- Looks told one after another, and a record that they leave.
-use Rattle.std.proofs.Common.{◌≡◌, ℕ, suc, ◌+◌, ◌-◌, ◌<◌, ◌≤◌, List, [], ◌∷◌, ◌++◌, length, replicate, Option, None, Some, refl, sym, ap, subst, ◌∙◌, append_assoc, arith, length-append}
+use Rattle.std.proofs.Common.{◌≡◌, ℕ, suc, ◌+◌, ◌-◌, ◌<◌, ◌≤◌, List, [], ◌∷◌, ◌++◌, length, replicate, Option, None}
+use Rattle.std.proofs.Common.{Some, refl, sym, ap, subst, ◌∙◌, append_assoc, arith, length-append}
 use Rattle.std.specs.Prelude.{slice_set}
 use Rattle.std.proofs.lemmas.List.{append-nil}
 use Rattle.cx_csr.specs.declared.state.State.{State}
@@ -74,7 +75,8 @@ with_seen rec word first rest places entries = record rec {
 }
 
 -- the first of the zeros set
-set_behind : (xs : List ℕ) (k x : ℕ) → slice_set (xs ++ replicate (suc k) 0) (length xs) x ≡ (xs ++ x ∷ []) ++ replicate k 0
+set_behind : (xs : List ℕ) (k x : ℕ) → slice_set (xs ++ replicate (suc k) 0) (length xs) x ≡ (xs ++ x ∷ []) ++ replicate
+    k 0
 set_behind [] k x = refl
 set_behind (y ∷ xs) k x = ap (λ l. y ∷ l) (set_behind xs k x)
 
@@ -84,28 +86,38 @@ set_padded xs n x e few =
     let less : 6 - length (xs ++ x ∷ []) ≡ 5 - length xs = omega (arith, length-append xs (x ∷ [])) in
     rw (e, more, less) (set_behind xs (5 - length xs) x)
 
-told_seen : (looks : List Look) (rec : StepRec) (word first rest : Option Touch) (ps es : List ℕ) → length es ≡ length ps → length (ps ++ places_in looks) ≤ 6
-    → told looks (with_seen rec word first rest ps es) ≡ with_seen rec (word_after looks word) (first_after looks first) (rest_after looks rest) (ps ++ places_in looks) (es ++ entries_in looks)
+told_seen : (looks : List Look) (rec : StepRec) (word first rest : Option Touch) (ps es : List ℕ)
+    → length es ≡ length ps → length (ps ++ places_in looks) ≤ 6
+    → told looks (with_seen rec word first rest ps es) ≡ with_seen rec (word_after looks word) (first_after looks first)
+    (rest_after looks rest) (ps ++ places_in looks) (es ++ entries_in looks)
 told_seen [] rec word first rest ps es same few = rw (append-nil ps, append-nil es) refl
 told_seen (Entry place entry ∷ looks) rec word first rest ps es same few =
     let longer : length (ps ++ place ∷ []) ≡ length ps + 1 = length-append ps (place ∷ []) in
     let here : length ps < 6 = omega (arith, length-append ps (place ∷ places_in looks)) in
-    let equal : length (es ++ entry ∷ []) ≡ length (ps ++ place ∷ []) = omega (arith, length-append es (entry ∷ []), longer) in
-    let one : tell (Entry place entry) (with_seen rec word first rest ps es) ≡ with_seen rec word first rest (ps ++ place ∷ []) (es ++ entry ∷ []) =
+    let equal : length (es ++ entry ∷ []) ≡ length (ps ++ place ∷ []) =
+    omega (arith, length-append es (entry ∷ []), longer) in
+    let one : tell (Entry place entry) (with_seen rec word first rest ps es) ≡ with_seen rec word first rest
+    (ps ++ place ∷ []) (es ++ entry ∷ []) =
     rw (set_padded ps (length ps) place refl here, set_padded es (length ps) entry (sym same) here, ← longer) refl in
-    let joined_places : (ps ++ place ∷ []) ++ places_in looks ≡ ps ++ (place ∷ places_in looks) = append_assoc ps (place ∷ []) (places_in looks) in
-    let joined_entries : (es ++ entry ∷ []) ++ entries_in looks ≡ es ++ (entry ∷ entries_in looks) = append_assoc es (entry ∷ []) (entries_in looks) in
-    let all = told_seen looks rec word first rest (ps ++ place ∷ []) (es ++ entry ∷ []) equal (subst (λ l. length l ≤ 6) (sym joined_places) few) in
+    let joined_places : (ps ++ place ∷ []) ++ places_in looks ≡ ps ++ (place ∷ places_in looks) =
+    append_assoc ps (place ∷ []) (places_in looks) in
+    let joined_entries : (es ++ entry ∷ []) ++ entries_in looks ≡ es ++ (entry ∷ entries_in looks) =
+    append_assoc es (entry ∷ []) (entries_in looks) in
+    let all = told_seen looks rec word first rest (ps ++ place ∷ []) (es ++ entry ∷ []) equal
+    (subst (λ l. length l ≤ 6) (sym joined_places) few) in
     ap (told looks) one ∙ (all
-    ∙ (ap (λ l. with_seen rec (word_after looks word) (first_after looks first) (rest_after looks rest) l ((es ++ entry ∷ []) ++ entries_in looks)) joined_places
-    ∙ ap (with_seen rec (word_after looks word) (first_after looks first) (rest_after looks rest) (ps ++ (place ∷ places_in looks))) joined_entries))
+    ∙ (ap (λ l. with_seen rec (word_after looks word) (first_after looks first) (rest_after looks rest) l
+    ((es ++ entry ∷ []) ++ entries_in looks)) joined_places
+    ∙ ap (with_seen rec (word_after looks word) (first_after looks first) (rest_after looks rest)
+    (ps ++ (place ∷ places_in looks))) joined_entries))
 told_seen (Word t ∷ looks) rec word first rest ps es same few = told_seen looks rec (Some t) first rest ps es same few
 told_seen (First t ∷ looks) rec word first rest ps es same few = told_seen looks rec word (Some t) rest ps es same few
 told_seen (Rest t ∷ looks) rec word first rest ps es same few = told_seen looks rec word first (Some t) ps es same few
 
 -- the record of a step that looked so
 abbrev pub seen_in : State → List Look → StepRec
-seen_in s looks = with_seen (blank s) (word_after looks None) (first_after looks None) (rest_after looks None) (places_in looks) (entries_in looks)
+seen_in s looks = with_seen (blank s) (word_after looks None) (first_after looks None) (rest_after looks None)
+    (places_in looks) (entries_in looks)
 
 pub places_costs : (looks : List Look) → length (places_in looks) ≡ costs 1 0 0 0 looks
 places_costs [] = refl
@@ -143,8 +155,10 @@ no_rest (Rest t ∷ looks) o none = absurd (omega arith)
 
 reads_none : (looks : List Look) → costs 0 0 1 1 looks ≤ 0 → (costs 0 0 1 0 looks ≤ 0) × (costs 0 0 0 1 looks ≤ 0)
 reads_none [] none = (omega arith, omega arith)
-reads_none (Entry place entry ∷ looks) none = let rest = reads_none looks (omega arith) in (omega (arith, rest.0), omega (arith, rest.1))
-reads_none (Word t ∷ looks) none = let rest = reads_none looks (omega arith) in (omega (arith, rest.0), omega (arith, rest.1))
+reads_none (Entry place entry ∷ looks) none = let rest = reads_none looks (omega arith) in
+    (omega (arith, rest.0), omega (arith, rest.1))
+reads_none (Word t ∷ looks) none = let rest = reads_none looks (omega arith) in
+    (omega (arith, rest.0), omega (arith, rest.1))
 reads_none (First t ∷ looks) none = absurd (omega arith)
 reads_none (Rest t ∷ looks) none = absurd (omega arith)
 

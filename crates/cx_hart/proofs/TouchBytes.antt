@@ -11,11 +11,13 @@ pub one_byte : (value : ℕ) → slice_index (to_le_bytes w32 value) 0 ∷ 0 ∷
 unfolding low_bytes
 one_byte value = refl
 
-pub two_bytes : (value : ℕ) → slice_index (to_le_bytes w32 value) 0 ∷ slice_index (to_le_bytes w32 value) 1 ∷ 0 ∷ 0 ∷ [] ≡ padded 4 (low_bytes 2 value)
+pub two_bytes : (value : ℕ) → slice_index (to_le_bytes w32 value) 0 ∷ slice_index (to_le_bytes w32 value) 1 ∷ 0 ∷ 0 ∷ []
+    ≡ padded 4 (low_bytes 2 value)
 unfolding low_bytes
 two_bytes value = refl
 
-pub three_bytes : (value : ℕ) → slice_index (to_le_bytes w32 value) 0 ∷ slice_index (to_le_bytes w32 value) 1 ∷ slice_index (to_le_bytes w32 value) 2 ∷ 0 ∷ [] ≡ padded 4 (low_bytes 3 value)
+pub three_bytes : (value : ℕ) → slice_index (to_le_bytes w32 value) 0 ∷ slice_index (to_le_bytes w32 value) 1
+    ∷ slice_index (to_le_bytes w32 value) 2 ∷ 0 ∷ [] ≡ padded 4 (low_bytes 3 value)
 unfolding low_bytes
 three_bytes value = simp div-div-eq-div-mul
 
@@ -25,7 +27,8 @@ four_bytes value = simp div-div-eq-div-mul
 
 -- ---- the same bytes written as a value
 
-low_bytes_of : (bytes : List ℕ) (value len : ℕ) → 1 ≤ len → len ≤ 4 → to_le_bytes w32 value ≡ bytes → low_bytes len value ≡ take len bytes
+low_bytes_of : (bytes : List ℕ) (value len : ℕ) → 1 ≤ len → len ≤ 4 → to_le_bytes w32 value ≡ bytes
+    → low_bytes len value ≡ take len bytes
 unfolding low_bytes
 low_bytes_of bytes value zero some most e = absurd (omega arith)
 low_bytes_of bytes value (suc zero) some most e = rw (← e) refl
@@ -34,7 +37,9 @@ low_bytes_of bytes value (suc (suc (suc zero))) some most e = rw (← e) (simp d
 low_bytes_of bytes value (suc (suc (suc (suc zero)))) some most e = rw (← e) (simp div-div-eq-div-mul)
 low_bytes_of bytes value (suc (suc (suc (suc (suc len))))) some most e = absurd (omega arith)
 
-pub stored_touch : (memory bytes : List ℕ) (i len value : ℕ) → 1 ≤ len → len ≤ 4 → length bytes ≡ 4 → ((k : ℕ) → get_or bytes k 0 < 256) → value ≡ from_le_bytes w32 bytes
+pub stored_touch : (memory bytes : List ℕ) (i len value : ℕ) → 1 ≤ len → len ≤ 4 → length bytes ≡ 4
+    → ((k : ℕ) → get_or bytes k 0 < 256) → value ≡ from_le_bytes w32 bytes
     → stored memory i len value ≡ written memory i (take len bytes)
 unfolding stored
-stored_touch memory bytes i len value some most size fits e = ap (written memory i) (low_bytes_of bytes value len some most (le_bytes_4 bytes value size fits e))
+stored_touch memory bytes i len value some most size fits e =
+    ap (written memory i) (low_bytes_of bytes value len some most (le_bytes_4 bytes value size fits e))

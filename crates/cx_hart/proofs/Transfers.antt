@@ -9,7 +9,8 @@ left_by : (pages word : ℕ) (b : Bool) → IsPlace pages word → IfSome (cond 
 left_by pages word true is = tt
 left_by pages word false is = is
 
-left_keeps : (pages place len : ℕ) (r : Option ℕ) → IfSome r (IsPlace pages) → IfSome (reservation_left place len r) (IsPlace pages)
+left_keeps : (pages place len : ℕ) (r : Option ℕ) → IfSome r (IsPlace pages)
+    → IfSome (reservation_left place len r) (IsPlace pages)
 left_keeps pages place len None is = tt
 left_keeps pages place len (Some word) is = left_by pages word (overlaps place len word) is
 

@@ -1,5 +1,6 @@
 -- A turn retires with what can be carried out and keeps the rules of the state, or ends early in a cause of the hart.
-use Rattle.std.proofs.Common.{◌≡◌, ℕ, zero, suc, ◌+◌, ◌-◌, ◌^◌, ◌<◌, Bool, true, false, cond, nat_eq, length, Option, None, Some, Ok, Err, IfErr, IfSome, IsTrue, bit_and, refl, subst, arith, w32}
+use Rattle.std.proofs.Common.{◌≡◌, ℕ, zero, suc, ◌+◌, ◌-◌, ◌^◌, ◌<◌, Bool, true, false, cond, nat_eq, length, Option}
+use Rattle.std.proofs.Common.{None, Some, Ok, Err, IfErr, IfSome, IsTrue, bit_and, refl, subst, arith, w32}
 use Rattle.std.specs.Int.{bit_not}
 use Rattle.std.proofs.lemmas.Nat.{and_le_l, and_le_r, or_of_32}
 use Rattle.cx_csr.specs.declared.access.Csr.{Csr}
@@ -14,9 +15,11 @@ use Rattle.cx_decode.specs.Table.{row_of}
 use Rattle.cx_decode.specs.WellFormed.{WellFormed}
 use Rattle.cx_decode.specs.declared.ins.Ins.{Ins}
 use Rattle.cx_decode.specs.declared.op.Op.{Op}
-use Rattle.cx_decode.specs.declared.op.Op.TheVariants.{Ecall, Ebreak, Mret, Sret, Csrrw, Csrrs, Csrrc, Csrrwi, Csrrsi, Csrrci}
+use Rattle.cx_decode.specs.declared.op.Op.TheVariants.{Ecall, Ebreak, Mret, Sret, Csrrw, Csrrs, Csrrc, Csrrwi, Csrrsi}
+use Rattle.cx_decode.specs.declared.op.Op.TheVariants.{Csrrci}
 use Rattle.cx_exec.specs.Asking.{ask_of, need_of}
-use Rattle.cx_exec.specs.Control.{control_operand_of, control_value_of, reads_control, row_control_operand, writes_control}
+use Rattle.cx_exec.specs.Control.{control_operand_of, control_value_of, reads_control, row_control_operand}
+use Rattle.cx_exec.specs.Control.{writes_control}
 use Rattle.cx_exec.specs.Values.{got_number}
 use Rattle.cx_exec.specs.declared.asks.Ask.{Ask}
 use Rattle.cx_exec.specs.declared.asks.Ask.TheVariants as ask
@@ -34,7 +37,8 @@ use Rattle.cx_walk.proofs.Branches.{either}
 use Rattle.cx_machine.specs.Machine.{pages_of}
 use Rattle.cx_map.specs.Bytes.{AreBytes}
 use Rattle.cx_hart.specs.Accesses.{outer_reading}
-use Rattle.cx_hart.specs.Control.{control_carried_out, control_done, control_of, controlled, half_of_time, new_value, old_of, old_value}
+use Rattle.cx_hart.specs.Control.{control_carried_out, control_done, control_of, controlled, half_of_time, new_value}
+use Rattle.cx_hart.specs.Control.{old_of, old_value}
 use Rattle.cx_hart.specs.Effects.{instruction_effect, retired_with}
 use Rattle.cx_hart.specs.Ends.{End, answered, found, ◌>>=◌}
 use Rattle.cx_hart.specs.Fetch.{fetched, translated}
@@ -71,18 +75,23 @@ module _ (pages : ℕ) (here : Surroundings) (k : Keeps pages here.state) (fits 
 
   -- ---- control registers
 
-  old_comes : (word : ℕ) (seen : Csr) → word < 2 ^ 32 → IsWordAnswer seen → Comes IsReading (old_of here.given word seen)
+  old_comes : (word : ℕ) (seen : Csr) → word < 2 ^ 32 → IsWordAnswer seen
+      → Comes IsReading (old_of here.given word seen)
   old_comes word (csr.Value v) small is = is
   old_comes word (csr.Time high) small is =
-      comes_bind (λ v. v < 2 ^ 32) IsReading (answered here.given (half_of_time high)) (λ value. found (outer_reading (Old value) value)) (answered_comes here.given (half_of_time high) fits) (λ v fit. fit)
+      comes_bind (λ v. v < 2 ^ 32) IsReading (answered here.given (half_of_time high))
+      (λ value. found (outer_reading (Old value) value)) (answered_comes here.given (half_of_time high) fits)
+      (λ v fit. fit)
   old_comes word csr.Illegal small is = illegal_comes IsReading word small
 
   old_value_comes : (word : ℕ) (i : Ins) → word < 2 ^ 32 → Comes IsReading (old_value here word i)
   unfolding old_value
   old_value_comes word i small =
-      either (Comes IsReading) (reads_control i) _ _ (λ reads. old_comes word (csr_read here.state i.imm) small (csr_read_word pages here.state i.imm k)) (λ none. omega arith)
+      either (Comes IsReading) (reads_control i) _ _ (λ reads. old_comes word (csr_read here.state i.imm) small
+      (csr_read_word pages here.state i.imm k)) (λ none. omega arith)
 
-  base_fits : (number value : ℕ) (b : Bool) → value < 2 ^ 32 → cond b (with_bits 0x200 here.state.csr.mip value) value < 2 ^ 32
+  base_fits : (number value : ℕ) (b : Bool) → value < 2 ^ 32 → cond b (with_bits 0x200 here.state.csr.mip value)
+      value < 2 ^ 32
   base_fits number value true small =
       let one : bit_and value (2 ^ 32 - 1 - 0x200) < 2 ^ 32 = omega (arith, and_le_l value (2 ^ 32 - 1 - 0x200)) in
       let two : bit_and here.state.csr.mip 0x200 < 2 ^ 32 = omega (arith, and_le_r here.state.csr.mip 0x200) in
@@ -110,17 +119,22 @@ module _ (pages : ℕ) (here : Surroundings) (k : Keeps pages here.state) (fits 
   control_fits : (i : Ins) (old : ℕ) → i.rs1 < 2 ^ 32 → old < 2 ^ 32 → FitsControl (control_of here.state i old)
   control_fits i old rs1 small =
       either FitsControl (writes_control i) (control.Write i.imm (new_value here.state i old)) control.Untouched
-      (λ writes. set_fits i.op (modify_base here.state i.imm old) (control_operand_of i here.state.x) (base_fits i.imm old (nat_eq i.imm 0x344) small) (operand_fits i.op i.rs1 rs1))
+      (λ writes. set_fits i.op (modify_base here.state i.imm old) (control_operand_of i here.state.x)
+      (base_fits i.imm old (nat_eq i.imm 0x344) small) (operand_fits i.op i.rs1 rs1))
       (λ none. tt)
 
-  control_legal : (i : Ins) (old : ℕ) → is_illegal (writes_control i) here.state i.imm ≡ false → IsLegal here.state (control_of here.state i old)
+  control_legal : (i : Ins) (old : ℕ) → is_illegal (writes_control i) here.state i.imm ≡ false
+      → IsLegal here.state (control_of here.state i old)
   control_legal i old legal = by (writes_control i) refl
     where
-      by : (writes : Bool) → writes_control i ≡ writes → IsLegal here.state (cond writes (control.Write i.imm (new_value here.state i old)) control.Untouched)
+      by : (writes : Bool) → writes_control i ≡ writes
+          → IsLegal here.state (cond writes (control.Write i.imm (new_value here.state i old)) control.Untouched)
       by true e = subst (λ w. is_illegal w here.state i.imm ≡ false) e legal
       by false e = tt
 
-  control_keepable : (i : Ins) (old : ℕ) (value : Option ℕ) (e : Effect) → is_illegal (writes_control i) here.state i.imm ≡ false → i.rs1 < 2 ^ 32 → old < 2 ^ 32 → IsEffect e → Kept (control_done here.state i old value e)
+  control_keepable : (i : Ins) (old : ℕ) (value : Option ℕ) (e : Effect)
+      → is_illegal (writes_control i) here.state i.imm ≡ false → i.rs1 < 2 ^ 32 → old < 2 ^ 32 → IsEffect e
+      → Kept (control_done here.state i old value e)
   control_keepable i old value e legal rs1 small effect = record {
     ready = record { register = effect.rd; control = control_legal i old legal; write = tt; write_more = tt };
     value = effect.value;
@@ -136,13 +150,18 @@ module _ (pages : ℕ) (here : Surroundings) (k : Keeps pages here.state) (fits 
   controlled_comes word i small formed =
       either (Comes Kept) (is_illegal (writes_control i) here.state i.imm) _ _
       (λ bad. illegal_comes Kept word small)
-      (λ legal. comes_bind IsReading Kept (old_value here word i) (control_carried_out here.state i) (old_value_comes word i small)
-      (λ reading fit. comes_bind IsEffect Kept (instruction_effect here.state i reading.got) (λ e. found (control_done here.state i (got_number reading.got) reading.value e)) (effect_comes pages here.state i reading.got k formed fit)
-      (λ e effect. control_keepable i (got_number reading.got) reading.value e legal (small_register i formed) fit effect)))
+      (λ legal. comes_bind IsReading Kept (old_value here word i) (control_carried_out here.state i)
+      (old_value_comes word i small)
+      (λ reading fit. comes_bind IsEffect Kept (instruction_effect here.state i reading.got)
+      (λ e. found (control_done here.state i (got_number reading.got) reading.value e))
+      (effect_comes pages here.state i reading.got k formed fit)
+      (λ e effect. control_keepable i (got_number reading.got) reading.value e legal (small_register i formed) fit
+      effect)))
 
   -- ---- calls, breaks and returns
 
-  returned_keepable : (c : Control) (pc : ℕ) → IsLegal here.state c → FitsControl c → IsAligned pc → Kept (returned here.state c pc)
+  returned_keepable : (c : Control) (pc : ℕ) → IsLegal here.state c → FitsControl c → IsAligned pc
+      → Kept (returned here.state c pc)
   returned_keepable c pc legal fit aligned = record {
     ready = record { register = omega arith; control = legal; write = tt; write_more = tt };
     value = omega arith;
@@ -176,19 +195,23 @@ module _ (pages : ℕ) (here : Surroundings) (k : Keeps pages here.state) (fits 
   system_comes word Ecall small = (call_is_cause here.state.mode k.mode, omega arith)
   system_comes word Ebreak small = (refl, k.pc.wide)
   system_comes word Mret small =
-      either (Comes Kept) (can_mret here.state) _ _ (λ legal. returned_keepable control.Mret here.state.csr.mepc legal tt k.csr.mepc) (λ bad. illegal_comes Kept word small)
+      either (Comes Kept) (can_mret here.state) _ _ (λ legal. returned_keepable control.Mret here.state.csr.mepc legal
+      tt k.csr.mepc) (λ bad. illegal_comes Kept word small)
   system_comes word Sret small =
-      either (Comes Kept) (can_sret here.state) _ _ (λ legal. returned_keepable control.Sret here.state.csr.sepc legal tt k.csr.sepc) (λ bad. illegal_comes Kept word small)
+      either (Comes Kept) (can_sret here.state) _ _ (λ legal. returned_keepable control.Sret here.state.csr.sepc legal
+      tt k.csr.sepc) (λ bad. illegal_comes Kept word small)
   system_comes word op small = illegal_comes Kept word small
 
   computed_comes : (word : ℕ) (i : Ins) → word < 2 ^ 32 → WellFormed i → Comes Kept (computed word here.state i)
   unfolding computed
   computed_comes word i small formed =
       either (Comes Kept) (is_barred here.state i.op) _ _ (λ barred. illegal_comes Kept word small)
-      (λ free. comes_bind IsEffect Kept (instruction_effect here.state i Nothing) (λ e. found (retired_with here.state e)) (effect_comes pages here.state i Nothing k formed (omega arith))
+      (λ free. comes_bind IsEffect Kept (instruction_effect here.state i Nothing)
+      (λ e. found (retired_with here.state e)) (effect_comes pages here.state i Nothing k formed (omega arith))
       retired_keepable)
 
-  without_access_comes : (word : ℕ) (i : Ins) (a : Ask) → word < 2 ^ 32 → WellFormed i → Comes Kept (done_without_access here word i a)
+  without_access_comes : (word : ℕ) (i : Ins) (a : Ask) → word < 2 ^ 32 → WellFormed i
+      → Comes Kept (done_without_access here word i a)
   without_access_comes word i ask.Csr small formed = controlled_comes word i small formed
   without_access_comes word i ask.System small formed = system_comes word i.op small
   without_access_comes word i a small formed = computed_comes word i small formed
@@ -196,32 +219,52 @@ module _ (pages : ℕ) (here : Surroundings) (k : Keeps pages here.state) (fits 
   -- ---- the instruction, and the turn
 
   module _ (bytes : AreBytes here.memory) (same : pages_of here.memory ≡ pages) where
-    need_comes : (word : ℕ) (i : Ins) (o : Option Need) → word < 2 ^ 32 → WellFormed i → IfSome o IsNeed → Comes Kept (done_by_need here word i o).end
-    need_comes word i None small formed needs = without_access_comes word i (ask_of i here.state.pc here.state.x) small formed
+    need_comes : (word : ℕ) (i : Ins) (o : Option Need) → word < 2 ^ 32 → WellFormed i → IfSome o IsNeed
+        → Comes Kept (done_by_need here word i o).end
+    need_comes word i None small formed needs = without_access_comes word i (ask_of i here.state.pc here.state.x) small
+        formed
     need_comes word i (Some n) small formed needs = accessed_comes pages here k bytes fits i n same formed needs
 
     executed_comes : (word : ℕ) (i : Ins) → word < 2 ^ 32 → WellFormed i → Comes Kept (executed here word i).end
     unfolding executed
     executed_comes word i small formed =
-        need_comes word i (need_of (ask_of i here.state.pc here.state.x)) small formed (row_need i.op _ (register_fits here.state.x i.rs1 (nat_eq i.rs1 0) k.wide))
+        need_comes word i (need_of (ask_of i here.state.pc here.state.x)) small formed
+        (row_need i.op _ (register_fits here.state.x i.rs1 (nat_eq i.rs1 0) k.wide))
 
-    instruction_comes : (word : ℕ) (o : Option Ins) → word < 2 ^ 32 → IfSome o WellFormed → Comes WellFormed (ins_or_illegal word o)
+    instruction_comes : (word : ℕ) (o : Option Ins) → word < 2 ^ 32 → IfSome o WellFormed
+        → Comes WellFormed (ins_or_illegal word o)
     instruction_comes word None small formed = illegal_comes WellFormed word small
     instruction_comes word (Some i) small formed = formed
 
     word_comes : (word : ℕ) → word < 2 ^ 32 → Comes Kept (instruction word >>= λ i. (executed here word i).end)
     word_comes word small =
-        comes_bind WellFormed Kept (instruction word) (λ i. (executed here word i).end) (instruction_comes word (decoded word) small (decoded_formed word small)) (λ i formed. executed_comes word i small formed)
+        comes_bind WellFormed Kept (instruction word) (λ i. (executed here word i).end)
+        (instruction_comes word (decoded word) small (decoded_formed word small))
+        (λ i formed. executed_comes word i small formed)
 
     fetched_comes : Comes (λ word. word < 2 ^ 32) (fetched here).end
     unfolding fetched
-    fetched_comes = fetched_by (translated here Fetch here.state.pc 4).end (translated_stops here Fetch here.state.pc 4 k.pc.wide)
+    fetched_comes = fetched_by (translated here Fetch here.state.pc 4).end (translated_stops here Fetch here.state.pc 4
+        k.pc.wide)
       where
-        fetched_by : (p : End Place) → IfErr p IsStop → Comes (λ word. word < 2 ^ 32) (p >>= λ place. found (part_value here.memory (record { va = here.state.pc; pa = address_of place; len = 4 })))
-        fetched_by (Ok place) stops = narrow_fits here.memory (record { va = here.state.pc; pa = address_of place; len = 4 }) bytes (omega arith)
+        fetched_by : (p : End Place) → IfErr p IsStop
+            → Comes (λ word. word < 2 ^ 32)
+            (p >>= λ place. found (part_value here.memory (record {
+              va = here.state.pc;
+              pa = address_of place;
+              len =
+                  4;
+            })))
+        fetched_by (Ok place) stops = narrow_fits here.memory (record {
+          va = here.state.pc;
+          pa = address_of place;
+          len =
+              4;
+        }) bytes (omega arith)
         fetched_by (Err stop) stops = stops
 
-    interrupt_comes : (o : Option ℕ) (p : Phase Retired) → IfSome o (λ n. IsTrue (is_cause (n + 2 ^ 31))) → Comes Kept p.end → Comes Kept (unless_interrupted o p).end
+    interrupt_comes : (o : Option ℕ) (p : Phase Retired) → IfSome o (λ n. IsTrue (is_cause (n + 2 ^ 31)))
+        → Comes Kept p.end → Comes Kept (unless_interrupted o p).end
     interrupt_comes None p cause comes = comes
     interrupt_comes (Some n) p cause comes = cause
 
@@ -229,4 +272,5 @@ module _ (pages : ℕ) (here : Surroundings) (k : Keeps pages here.state) (fits 
     unfolding turn
     turn_comes =
         interrupt_comes (pending_of here.state) _ (pending_number here.state)
-        (comes_bind (λ word. word < 2 ^ 32) Kept (fetched here).end (λ word. instruction word >>= λ i. (executed here word i).end) fetched_comes word_comes)
+        (comes_bind (λ word. word < 2 ^ 32) Kept (fetched here).end
+        (λ word. instruction word >>= λ i. (executed here word i).end) fetched_comes word_comes)

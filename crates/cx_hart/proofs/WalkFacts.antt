@@ -1,5 +1,6 @@
 -- What holds of every walk over RAM.
-use Rattle.std.proofs.Common.{◌≡◌, ℕ, ◌%◌, ◌^◌, ◌<◌, ◌≤◌, ◌⊎◌, Bool, true, false, cond, List, [], ◌∷◌, Option, Some, IsSome, IfOk, IfErr, refl, subst, lit<, nat_eq}
+use Rattle.std.proofs.Common.{◌≡◌, ℕ, ◌%◌, ◌^◌, ◌<◌, ◌≤◌, ◌⊎◌, Bool, true, false, cond, List, [], ◌∷◌, Option, Some}
+use Rattle.std.proofs.Common.{IsSome, IfOk, IfErr, refl, subst, lit<, nat_eq}
 use borrow.Author.Tests.{eqb-true}
 use Rattle.std.specs.List.{find}
 use Rattle.cx_walk.specs.declared.device.DeviceWord.{DeviceWord}
@@ -20,22 +21,28 @@ pub walk_most : (here : Surroundings) (kind : Kind) (va len : ℕ) → (walk_in 
 unfolding walk_in
 walk_most here kind va len = places_most (word_in (ram_bytes here.memory)) (pages_of here.memory) here.state kind va len
 
-pub walk_in_found : (here : Surroundings) (kind : Kind) (va len : ℕ) → (len ≡ 1) ⊎ (len ≡ 2) ⊎ (len ≡ 4) → va % len ≡ 0 → IfOk (walk_in here kind va len).answer (IsFound (pages_of here.memory) kind len)
+pub walk_in_found : (here : Surroundings) (kind : Kind) (va len : ℕ) → (len ≡ 1) ⊎ (len ≡ 2) ⊎ (len ≡ 4) → va % len ≡ 0
+    → IfOk (walk_in here kind va len).answer (IsFound (pages_of here.memory) kind len)
 unfolding walk_in
-walk_in_found here kind va len lengths aligned = walk_found (word_in (ram_bytes here.memory)) (pages_of here.memory) here.state kind va len lengths aligned
+walk_in_found here kind va len lengths aligned = walk_found (word_in (ram_bytes here.memory)) (pages_of here.memory)
+    here.state kind va len lengths aligned
 
 -- ---- what a walk comes to
 
 abbrev pub SameOffset : ℕ → ℕ → Type 0
 SameOffset va address = address % 4096 ≡ va % 4096
 
-pub walk_in_faults : (here : Surroundings) (kind : Kind) (va len : ℕ) → IfErr (walk_in here kind va len).answer (IsFault kind)
+pub walk_in_faults : (here : Surroundings) (kind : Kind) (va len : ℕ)
+    → IfErr (walk_in here kind va len).answer (IsFault kind)
 unfolding walk_in
-walk_in_faults here kind va len = walk_faults here.state kind va (word_in (ram_bytes here.memory)) (pages_of here.memory) len
+walk_in_faults here kind va len = walk_faults here.state kind va (word_in (ram_bytes here.memory))
+    (pages_of here.memory) len
 
-pub walk_in_offset : (here : Surroundings) (kind : Kind) (va len : ℕ) → IfOk (walk_in here kind va len).answer (λ place. SameOffset va (address_of place))
+pub walk_in_offset : (here : Surroundings) (kind : Kind) (va len : ℕ)
+    → IfOk (walk_in here kind va len).answer (λ place. SameOffset va (address_of place))
 unfolding walk_in
-walk_in_offset here kind va len = walk_offset here.state kind va (word_in (ram_bytes here.memory)) (pages_of here.memory) len
+walk_in_offset here kind va len = walk_offset here.state kind va (word_in (ram_bytes here.memory))
+    (pages_of here.memory) len
 
 -- ---- words of devices are below RAM
 
@@ -43,11 +50,14 @@ word_below : (word : DeviceWord) → device_place word < 2 ^ 31
 word_below Power = lit< tt
 word_below word = lit< tt
 
-find_below : (place : ℕ) (words : List DeviceWord) → IsSome (find (λ w. nat_eq (device_place w) place) words) → place < 2 ^ 31
+find_below : (place : ℕ) (words : List DeviceWord) → IsSome (find (λ w. nat_eq (device_place w) place) words)
+    → place < 2 ^ 31
 find_below place [] there = absurd cc
-find_below place (w ∷ words) there = first_below place w (nat_eq (device_place w) place) (find (λ o. nat_eq (device_place o) place) words) refl there (find_below place words)
+find_below place (w ∷ words) there = first_below place w (nat_eq (device_place w) place)
+    (find (λ o. nat_eq (device_place o) place) words) refl there (find_below place words)
   where
-    first_below : (place : ℕ) (w : DeviceWord) (b : Bool) (rest : Option DeviceWord) → nat_eq (device_place w) place ≡ b → IsSome (cond b (Some w) rest) → (IsSome rest → place < 2 ^ 31) → place < 2 ^ 31
+    first_below : (place : ℕ) (w : DeviceWord) (b : Bool) (rest : Option DeviceWord) → nat_eq (device_place w) place ≡ b
+        → IsSome (cond b (Some w) rest) → (IsSome rest → place < 2 ^ 31) → place < 2 ^ 31
     first_below place w true rest e there others = subst (λ p. p < 2 ^ 31) (eqb-true _ _ e) (word_below w)
     first_below place w false rest e there others = others there
 

@@ -46,12 +46,14 @@ pub record WritesInside (size : ℕ) (r : Retired) : Type 0 where
 -- ---- phases
 
 -- what holds of what the next phase finds, whatever this one does,
-pub ok_then : {Y Z : Type 0} (Q : Z → Type 0) (p : End Y) (next : Y → End Z) → ((y : Y) → IfOk (next y) Q) → IfOk (p >>= next) Q
+pub ok_then : {Y Z : Type 0} (Q : Z → Type 0) (p : End Y) (next : Y → End Z) → ((y : Y) → IfOk (next y) Q)
+    → IfOk (p >>= next) Q
 ok_then Q (Ok y) next rest = rest y
 ok_then Q (Err stop) next rest = tt
 
 -- or by what this one finds
-pub ok_bind : {Y Z : Type 0} (P : Y → Type 0) (Q : Z → Type 0) (p : End Y) (next : Y → End Z) → IfOk p P → ((y : Y) → P y → IfOk (next y) Q) → IfOk (p >>= next) Q
+pub ok_bind : {Y Z : Type 0} (P : Y → Type 0) (Q : Z → Type 0) (p : End Y) (next : Y → End Z) → IfOk p P
+    → ((y : Y) → P y → IfOk (next y) Q) → IfOk (p >>= next) Q
 ok_bind P Q (Ok y) next one rest = rest y one
 ok_bind P Q (Err stop) next one rest = tt
 
@@ -66,22 +68,34 @@ module _ (here : Surroundings) where
   controlled_writes word i =
       either Inside (is_illegal (writes_control i) here.state i.imm) _ _ (λ bad. tt)
       (λ legal. ok_then (WritesInside (length here.memory)) (old_value here word i) (control_carried_out here.state i)
-      (λ reading. ok_then (WritesInside (length here.memory)) (instruction_effect here.state i reading.got) (λ e. found (control_done here.state i (got_number reading.got) reading.value e))
+      (λ reading. ok_then (WritesInside (length here.memory)) (instruction_effect here.state i reading.got)
+      (λ e. found (control_done here.state i (got_number reading.got) reading.value e))
       (λ e. record { first = tt; second = tt; parts = no_parts })))
 
   system_writes : (word : ℕ) (op : Op) → Inside (system word here.state op)
   unfolding system
   system_writes word Ecall = tt
   system_writes word Ebreak = tt
-  system_writes word Mret = either Inside (can_mret here.state) _ _ (λ legal. record { first = tt; second = tt; parts = no_parts }) (λ bad. tt)
-  system_writes word Sret = either Inside (can_sret here.state) _ _ (λ legal. record { first = tt; second = tt; parts = no_parts }) (λ bad. tt)
+  system_writes word Mret = either Inside (can_mret here.state) _ _ (λ legal. record {
+    first = tt;
+    second = tt;
+    parts =
+        no_parts;
+  }) (λ bad. tt)
+  system_writes word Sret = either Inside (can_sret here.state) _ _ (λ legal. record {
+    first = tt;
+    second = tt;
+    parts =
+        no_parts;
+  }) (λ bad. tt)
   system_writes word op = tt
 
   computed_writes : (word : ℕ) (i : Ins) → Inside (computed word here.state i)
   unfolding computed
   computed_writes word i =
       either Inside (is_barred here.state i.op) _ _ (λ barred. tt)
-      (λ free. ok_then (WritesInside (length here.memory)) (instruction_effect here.state i Nothing) (λ e. found (retired_with here.state e)) (λ e. record { first = tt; second = tt; parts = no_parts }))
+      (λ free. ok_then (WritesInside (length here.memory)) (instruction_effect here.state i Nothing)
+      (λ e. found (retired_with here.state e)) (λ e. record { first = tt; second = tt; parts = no_parts }))
 
   without_access_writes : (word : ℕ) (i : Ins) (a : Ask) → Inside (done_without_access here word i a)
   without_access_writes word i ask.Csr = controlled_writes word i
@@ -90,17 +104,26 @@ module _ (here : Surroundings) where
 
   -- ---- those with one
 
-  access_writes : (a : Access) (target : Target) (reading : Reading) (e : Effect) → IsTarget (length here.memory) target → WritesInside (length here.memory) (access_done here.state a target reading e)
-  access_writes a target reading e inside = record { first = first_writable (length here.memory) target e.write inside; second = second_writable (length here.memory) target e.write inside; parts = written_parts (length here.memory) target e.write inside }
+  access_writes : (a : Access) (target : Target) (reading : Reading) (e : Effect) → IsTarget (length here.memory) target
+      → WritesInside (length here.memory) (access_done here.state a target reading e)
+  access_writes a target reading e inside = record {
+    first = first_writable (length here.memory) target e.write inside;
+    second = second_writable (length here.memory) target e.write inside;
+    parts =
+        written_parts (length here.memory) target e.write inside;
+  }
 
   accessed_writes : (i : Ins) (n : Need) → IsLength n.len → Inside (accessed here i n).end
   unfolding accessed
   accessed_writes i n lengths =
-      ok_bind (IsTarget (length here.memory)) (WritesInside (length here.memory)) (reached here n).end _ (reached_inside here n lengths)
+      ok_bind (IsTarget (length here.memory)) (WritesInside (length here.memory)) (reached here n).end _
+      (reached_inside here n lengths)
       (λ target inside. ok_then (WritesInside (length here.memory)) (reading_of here n.access target).end _
-      (λ reading. ok_then (WritesInside (length here.memory)) (instruction_effect here.state i reading.got) _ (λ e. access_writes n.access target reading e inside)))
+      (λ reading. ok_then (WritesInside (length here.memory)) (instruction_effect here.state i reading.got) _
+      (λ e. access_writes n.access target reading e inside)))
 
-  need_writes : (word : ℕ) (i : Ins) (o : Option Need) → o ≡ need_of (ask_of i here.state.pc here.state.x) → Inside (done_by_need here word i o).end
+  need_writes : (word : ℕ) (i : Ins) (o : Option Need) → o ≡ need_of (ask_of i here.state.pc here.state.x)
+      → Inside (done_by_need here word i o).end
   need_writes word i None e = without_access_writes word i (ask_of i here.state.pc here.state.x)
   need_writes word i (Some n) e = accessed_writes i n (need_length i here.state.pc here.state.x n e)
 
@@ -118,5 +141,7 @@ module _ (here : Surroundings) where
   unfolding turn
   turn_writes =
       uninterrupted_writes (pending_of here.state) _
-      (ok_then (WritesInside (length here.memory)) (fetched here).end (λ word. instruction word >>= λ i. (executed here word i).end)
-      (λ word. ok_then (WritesInside (length here.memory)) (instruction word) (λ i. (executed here word i).end) (executed_writes word)))
+      (ok_then (WritesInside (length here.memory)) (fetched here).end
+      (λ word. instruction word >>= λ i. (executed here word i).end)
+      (λ word. ok_then (WritesInside (length here.memory)) (instruction word) (λ i. (executed here word i).end)
+      (executed_writes word)))

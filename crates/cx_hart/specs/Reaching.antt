@@ -1,6 +1,7 @@
 -- Where the bytes of an access to memory stand. An access that isn't aligned traps (Unprivileged ISA, 2.6 and 8.2), but
 -- where the hart splits plain loads and stores by pages.
-use Rattle.std.specs.Prelude.{ℕ, ◌+◌, ◌-◌, ◌%◌, Bool, true, false, not, ◌==◌, ◌&&◌, min, if◌then◌else◌, Option, None, Some}
+use Rattle.std.specs.Prelude.{ℕ, ◌+◌, ◌-◌, ◌%◌, Bool, true, false, not, ◌==◌, ◌&&◌, min, if◌then◌else◌, Option, None}
+use Rattle.std.specs.Prelude.{Some}
 use Rattle.cx_csr.specs.declared.causes.TheConstants.{LOAD_ADDRESS_MISALIGNED, STORE_ADDRESS_MISALIGNED}
 use Rattle.cx_exec.specs.Arithmetic.{wrapped}
 use Rattle.cx_exec.specs.declared.asks.Access.{Access}

@@ -2,7 +2,9 @@
 
 ghost use Rattle.std.specs.Prelude.{◌≡◌, ◌+◌, ◌*◌, ◌^◌, ◌<◌, ◌≤◌, ◌⊎◌, length};
 ghost use Rattle.cx_decode.specs.WellFormed.{WellFormed};
-ghost use Rattle.cx_hart.specs.Accesses.{access_done, accessed, bytes_of, first_place, first_write, inner_reading, joined, outcome_at, outer_reading, reading_of, reservation_after, second_write};
+ghost use Rattle.cx_hart.specs.Accesses.{access_done, accessed, bytes_of, first_place, first_write, inner_reading};
+ghost use Rattle.cx_hart.specs.Accesses.{joined, outcome_at, outer_reading, reading_of, reservation_after};
+ghost use Rattle.cx_hart.specs.Accesses.{second_write};
 ghost use Rattle.cx_hart.specs.Ends.{answered};
 ghost use Rattle.cx_hart.specs.Looks.{told};
 ghost use Rattle.cx_hart.specs.Stretches.{IsSized, IsSizedRest, IsTarget};

@@ -2,7 +2,8 @@
 
 ghost use Rattle.std.specs.Prelude.{◌≡◌, ◌<◌, ◌^◌};
 ghost use Rattle.cx_decode.specs.WellFormed.{WellFormed};
-ghost use Rattle.cx_hart.specs.Control.{control_carried_out, control_done, control_of, controlled, counter_result, old_of, old_value};
+ghost use Rattle.cx_hart.specs.Control.{control_carried_out, control_done, control_of, controlled, counter_result};
+ghost use Rattle.cx_hart.specs.Control.{old_of, old_value};
 
 use crate::access::{answered, inner_reading, outer_reading};
 use crate::answer::Asked;

@@ -1,6 +1,7 @@
 //! The machine: a hart and its RAM, which take steps in place.
 
-ghost use Rattle.std.specs.Prelude.{◌≡◌, ℕ, ◌+◌, ◌*◌, ◌/◌, ◌^◌, ◌<◌, ◌≤◌, [], ◌∷◌, replicate, length, IfErr, IfOk, IfSome, false, refl};
+ghost use Rattle.std.specs.Prelude.{◌≡◌, ℕ, ◌+◌, ◌*◌, ◌/◌, ◌^◌, ◌<◌, ◌≤◌, [], ◌∷◌, replicate, length, IfErr, IfOk};
+ghost use Rattle.std.specs.Prelude.{IfSome, false, refl};
 ghost use Rattle.cx_csr.specs.Keeps.{Keeps};
 ghost use Rattle.cx_machine.specs.Due.{AreLines, with_lines};
 ghost use Rattle.cx_machine.specs.Machine.{pages_of};

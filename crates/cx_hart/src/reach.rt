@@ -2,7 +2,8 @@
 
 ghost use Rattle.std.specs.Prelude.{◌≡◌, ◌+◌, ◌-◌, ◌%◌, ◌<◌, ◌≤◌, ◌⊎◌};
 ghost use Rattle.cx_hart.specs.Looks.{told};
-ghost use Rattle.cx_hart.specs.Reaching.{first_length, is_plain, kind_of, misaligned_cause, reached, reached_part, reached_split, reached_whole};
+ghost use Rattle.cx_hart.specs.Reaching.{first_length, is_plain, kind_of, misaligned_cause, reached, reached_part};
+ghost use Rattle.cx_hart.specs.Reaching.{reached_split, reached_whole};
 
 use crate::fetch::{address_of, translated};
 use crate::findings::{Part, Stop, Target};

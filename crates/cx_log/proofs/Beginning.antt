@@ -1,5 +1,5 @@
 -- Where the records begin.
-use Rattle.std.proofs.Common.{◌≡◌, ℕ, zero, suc, ◌-◌, ◌<◌, [], List, Option, IsSome, arith, refl, ap, sym, Some, Ok}
+use Rattle.std.proofs.Common.{◌≡◌, ℕ, zero, suc, ◌-◌, ◌<◌, [], List, Option, IsSome, arith, refl, sym, Some, Ok}
 use Rattle.std.proofs.lemmas.List.{append-nil}
 use Rattle.cx_codec.specs.Place.{Place, Buffered, read_on, done}
 use Rattle.cx_log.specs.Fault.{log_met}
@@ -9,15 +9,23 @@ use Rattle.cx_log.specs.Engine.{begin_behind, begun_by, turned_page_at}
 use Rattle.cx_log.specs.Reading.{page_at}
 
 begun_behind : (left : ℕ) (b : Buffered) (more : Option (List ℕ)) (given : List ℕ) → IsSome more
-    → Reads log_met (always {X = Unit {0}} tt) (begin_behind left) (over b more given) (over (begun_by left b) more given) (Ok (tt {0}))
+    → Reads log_met (always {X = Unit {0}} tt) (begin_behind left) (over b more given)
+    (over (begun_by left b) more given) (Ok (tt {0}))
 begun_behind zero b more given told = record {
-  follows = record { told = told; same = refl; grows = record { rest = []; parts = sym (append-nil given) }; level = refl };
+  follows = record {
+    told = told;
+    same = refl;
+    grows = record { rest = []; parts = sym (append-nil given) };
+    level = refl;
+  };
   reads = λ input begins. refl;
 }
 begun_behind (suc left) b more given told = gives told (λ p. refl)
 
-pub begins_behind : (left : ℕ) (b : Buffered) {now : Buffered} (more : Option (List ℕ)) (given : List ℕ) → now ≡ begun_by left b → IsSome more
-    → Reads log_met (always {X = Unit {0}} tt) (begin_behind left) (over b more given) (over now more given) (Ok (tt {0}))
+pub begins_behind : (left : ℕ) (b : Buffered) {now : Buffered} (more : Option (List ℕ)) (given : List ℕ)
+    → now ≡ begun_by left b → IsSome more
+    → Reads log_met (always {X = Unit {0}} tt) (begin_behind left) (over b more given) (over now more given)
+    (Ok (tt {0}))
 begins_behind left b more given is told = rw is (begun_behind left b more given told)
 
 -- a page that is left

@@ -1,5 +1,5 @@
 -- Whether an input ends behind End.
-use Rattle.std.proofs.Common.{◌≡◌, ℕ, Bool, true, false, cond, eqb, length, refl, ap, sym, ◌∙◌, Result, Ok, Err}
+use Rattle.std.proofs.Common.{◌≡◌, ℕ, Bool, true, false, cond, eqb, length, refl, ap, ◌∙◌, Result, Ok, Err}
 use Rattle.std.proofs.lemmas.Bool.{eqb-true}
 use Rattle.cx_codec.specs.declared.fault.BytesFault.{BytesFault}
 use Rattle.cx_codec.specs.declared.fault.BytesFault.TheVariants.{Bad, ReadFault}
@@ -26,12 +26,14 @@ told_end p q b false false some read =
     let is : false ≡ b = ap (λ (x : Bool × Place). x.0) same in
     rw (some, ← is) refl
 
-closes_as : (p q : Place) (b : Bool) → end_at p ≡ Ok (b, q) → close_at p ≡ cond {A = Result (Unit {0} × Place) ℕ} b (Ok (tt, q)) (Err p.at)
+closes_as : (p q : Place) (b : Bool) → end_at p ≡ Ok (b, q) → close_at p ≡ cond {A = Result (Unit {0} × Place) ℕ} b
+    (Ok (tt, q)) (Err p.at)
 unfolding end_at
 closes_as p q b read = told_end p q b (eqb (length p.ahead) 0) (eqb p.at p.limit) refl read
 
 told_bad : (p : Place) (o : ℕ) (s t : Bool) → eqb (length p.ahead) 0 ≡ s → eqb p.at p.limit ≡ t
-    → cond {A = Result (Bool × Place) ℕ} s (Ok (true, p)) (cond t (Err p.limit) (Ok (false, p))) ≡ Err o → close_at p ≡ Err o
+    → cond {A = Result (Bool × Place) ℕ} s (Ok (true, p)) (cond t (Err p.limit) (Ok (false, p))) ≡ Err o
+    → close_at p ≡ Err o
 told_bad p o true t none there read = cc
 told_bad p o false true some there read =
     let is : p.limit ≡ o = cc in
@@ -51,15 +53,18 @@ closes_here {old} {new} first = record {
 }
 
 -- or it didn't,
-pub closes_later : {old new : Standing} {e : LogFault} → Ends bytes_met (λ (b : Bool). b) true end_at old new (Ok false) → log_met e ≡ BadAt old.hand.at
+pub closes_later : {old new : Standing} {e : LogFault} → Ends bytes_met (λ (b : Bool). b) true end_at old new (Ok false)
+    → log_met e ≡ BadAt old.hand.at
     → Ends {X = Unit {0}} log_met (always tt) tt close_at old new (Err e)
 closes_later {old} {new} first is = record {
   follows = first.follows;
-  ends = λ input begins. rw is (λ may. closes_as (place_in old input) (place_in new input) false (first.ends input begins may));
+  ends = λ input begins. rw is (λ may. closes_as (place_in old input) (place_in new input) false
+      (first.ends input begins may));
 }
 
 -- or that wasn't found out.
-pub close_fails : {old new : Standing} (e : BytesFault) → Ends {X = Bool} bytes_met (λ (b : Bool). b) true end_at old new (Err e)
+pub close_fails : {old new : Standing} (e : BytesFault) → Ends {X = Bool} bytes_met (λ (b : Bool). b) true end_at old
+    new (Err e)
     → Ends {X = Unit {0}} log_met (always tt) tt close_at old new (Err (log_fault_of e))
 close_fails {old} {new} (Bad o) first = record {
   follows = first.follows;

@@ -1,5 +1,6 @@
 -- A header that keeps the rules is read back from its text, and what was read as one keeps the rules and is its text.
-use Rattle.std.proofs.Common.{◌≡◌, ℕ, zero, suc, ◌+◌, ◌-◌, ◌^◌, ◌<◌, ◌≤◌, List, [], ◌∷◌, ◌++◌, length, get_or, leb, eqb, cond, All, arith, refl, ap, sym, ◌∙◌, inl, inr, Bool, true, false, Ok, append_assoc}
+use Rattle.std.proofs.Common.{◌≡◌, ℕ, zero, suc, ◌+◌, ◌-◌, ◌^◌, ◌<◌, ◌≤◌, List, [], ◌∷◌, ◌++◌, length, get_or, leb, eqb}
+use Rattle.std.proofs.Common.{cond, All, arith, refl, ap, sym, ◌∙◌, inl, inr, Bool, true, false, Ok, append_assoc}
 use Rattle.std.proofs.lemmas.Bool.{leb-true}
 use Rattle.std.specs.Int.{w32, to_le_bytes}
 use Rattle.cx_map.specs.Bytes.{AreBytes}
@@ -18,7 +19,8 @@ use Rattle.cx_log.specs.declared.header.Header.{Header}
 use Rattle.cx_log.specs.declared.limits.TheConstants.{STEP_LIMIT}
 use Rattle.cx_log.specs.Fields.{varint_between}
 use Rattle.cx_log.specs.Order.{IsHeader, IsVersion}
-use Rattle.cx_log.specs.Reading.{Announced, second_version_at, announced_by, announced_at, words_at, state_words_at, header_at}
+use Rattle.cx_log.specs.Reading.{Announced, second_version_at, announced_by, announced_at, words_at, state_words_at}
+use Rattle.cx_log.specs.Reading.{header_at}
 use Rattle.cx_log.specs.Text.{version_text, words_text, behind_magic}
 use Rattle.cx_codec.proofs.Composing.{bound}
 use Rattle.cx_codec.proofs.ReadOnce.{byte_once, word_once}

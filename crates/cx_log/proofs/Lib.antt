@@ -17,3 +17,4 @@ pub mod Closing
 pub mod Beginning
 pub mod Items
 pub mod WordTexts
+pub mod Following

@@ -1,6 +1,7 @@
 -- The pages of a memory are read back from their text, and what was read as pages is the text of the memory that they
 -- make.
-use Rattle.std.proofs.Common.{◌≡◌, ℕ, zero, suc, ◌+◌, ◌-◌, ◌*◌, ◌<◌, ◌≤◌, List, ◌++◌, length, replicate, cond, arith, refl, ap, sym, ◌∙◌, inl, inr, Bool, true, false, Ok}
+use Rattle.std.proofs.Common.{◌≡◌, ℕ, zero, suc, ◌+◌, ◌-◌, ◌*◌, ◌<◌, ◌≤◌, List, ◌++◌, length, replicate, cond, arith}
+use Rattle.std.proofs.Common.{refl, ap, sym, ◌∙◌, inl, inr, Bool, true, false, Ok}
 use Rattle.std.proofs.lemmas.List.{length-replicate}
 use Rattle.std.proofs.lemmas.Bool.{cases_Bool, cases_lt}
 use Rattle.cx_map.specs.Bytes.{AreBytes}
@@ -20,10 +21,12 @@ use Rattle.cx_log.specs.Reading.{Page, page_bytes_at, page_at, pages_at}
 use Rattle.cx_log.specs.Text.{page_count, pages_text}
 use Rattle.cx_codec.proofs.Composing.{bound}
 use Rattle.cx_codec.proofs.ReadOnce.{bytes_once}
-use Rattle.cx_codec.proofs.Texts.{takes_first, takes_second, takes_both, takes_along, takes_nothing, bytes_behind, bytes_taken}
+use Rattle.cx_codec.proofs.Texts.{takes_first, takes_second, takes_both, takes_along, takes_nothing, bytes_behind}
+use Rattle.cx_codec.proofs.Texts.{bytes_taken}
 use Rattle.cx_log.proofs.Done.{done_pair, nothing_taken}
 use Rattle.cx_log.proofs.FieldTests.{between_again, between_once}
-use Rattle.cx_log.proofs.PageParts.{same_zeros, zero_page, size_page, same_memories, bytes_written, text_from, count_from, text_split, count_split, text_is, count_is, no_text, no_count}
+use Rattle.cx_log.proofs.PageParts.{same_zeros, zero_page, size_page, same_memories, bytes_written, text_from}
+use Rattle.cx_log.proofs.PageParts.{count_from, text_split, count_split, text_is, count_is, no_text, no_count}
 
 -- one page
 page_bytes_again : (p after : Place) (bytes : List ℕ) → length bytes ≡ PAGE_SIZE → is_zero bytes ≡ false

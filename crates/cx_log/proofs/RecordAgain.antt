@@ -1,5 +1,6 @@
 -- A record that may stand behind others is read back from its text.
-use Rattle.std.proofs.Common.{◌≡◌, ◌≢◌, ℕ, ◌+◌, ◌-◌, ◌^◌, ◌<◌, ◌≤◌, List, [], ◌∷◌, ◌++◌, length, get_or, min, ltb, leb, eqb, not, arith, refl, ap, sym, ⊎_elim, ◌⊎◌, Bool, true, false, ◌&&◌, ◌||◌, Ok}
+use Rattle.std.proofs.Common.{◌≡◌, ◌≢◌, ℕ, ◌+◌, ◌-◌, ◌^◌, ◌<◌, ◌≤◌, List, [], ◌∷◌, ◌++◌, length, get_or, min, ltb, leb}
+use Rattle.std.proofs.Common.{eqb, not, arith, refl, ap, sym, ⊎_elim, ◌⊎◌, Bool, true, false, ◌&&◌, ◌||◌, Ok}
 use Rattle.std.proofs.lemmas.Bool.{lt-ltb, le-leb, eq-eqb, ne_eqb, and_from, or_left, or_right, not_from_false}
 use Rattle.std.proofs.lemmas.List.{append-nil}
 use Rattle.std.proofs.lemmas.Nat.{and_le_r}
@@ -21,7 +22,8 @@ use Rattle.cx_log.specs.declared.kind.Kind.TheVariants as kind
 use Rattle.cx_log.specs.Kind.{kind_of, kinds, tag_of}
 use Rattle.cx_log.specs.Order.{Behind, HoldsWell, MayFollow, MayEnd}
 use Rattle.cx_log.specs.Recording.{Event, Mark, Dma, Lines, Value, Recorded}
-use Rattle.cx_log.specs.Records.{Entry, Put, Ends, may_stand, kind_at, step_at, dma_at, lines_at, asked_value_at, entry_at, record_at}
+use Rattle.cx_log.specs.Records.{Entry, Put, Ends, may_stand, kind_at, step_at, dma_at, lines_at, asked_value_at}
+use Rattle.cx_log.specs.Records.{entry_at, record_at}
 use Rattle.cx_log.specs.Text.{payload, record_text, end_text}
 use Rattle.cx_codec.proofs.Texts.{takes_first, takes_second, takes_along}
 use Rattle.cx_log.proofs.Done.{nothing_taken}
@@ -87,7 +89,7 @@ in_order behind step least = ⊎_elim
     (λ (same : (behind.step ≡ step) × (behind.least ≤ least)). or_right _ _
     (and_from _ _ (eq-eqb behind.step step same.0) (le-leb behind.least least same.1)))
 
-event_stands : (pages step : ℕ) (behind : Behind) (event : Event)
+pub event_stands : (pages step : ℕ) (behind : Behind) (event : Event)
     → MayFollow pages behind (record { step = step; event = event }) → may_stand behind (kind_of event) step ≡ true
 event_stands pages step behind Mark follows = and_three _ _ _ (lt-ltb step STEP_LIMIT follows.small)
     (in_order behind step 0 follows.order) (eq-eqb step behind.mark follows.marks)
@@ -123,7 +125,7 @@ dma_again pages t p after count fits takes =
     (takes_first q after size t.bytes more) in
     rw (word, long, bytes_again r after t.bytes (takes_second q after size t.bytes more)) refl
 
-same_lines : (a b : lines.Lines) → a.0 ≡ b.0 → a ≡ b
+pub same_lines : (a b : lines.Lines) → a.0 ≡ b.0 → a ≡ b
 same_lines a b e = ap (λ (mask : ℕ). let up : lines.Lines = record { 0 = mask } in up) e
 
 lines_again : (standing up : lines.Lines) (p after : Place) → AreLines up → up ≢ standing
@@ -160,7 +162,7 @@ record_again pages behind r p after count follows takes =
     (not_before behind.step r.step _ follows.order) (omega (arith, follows.small))
     (λ q. entry_again pages behind r.step r.event q after count follows.holds) takes
 
-end_stands : (behind : Behind) (end : ℕ) → MayEnd behind end → may_stand behind kind.End end ≡ true
+pub end_stands : (behind : Behind) (end : ℕ) → MayEnd behind end → may_stand behind kind.End end ≡ true
 end_stands behind end ends = and_three _ _ _ (le-leb end STEP_LIMIT ends.small) (lt-ltb behind.step end ends.above)
     (le-leb end behind.mark ends.marks)
 

@@ -1,5 +1,6 @@
 -- A record that was read stands at its place, and may stand behind those before it.
-use Rattle.std.proofs.Common.{◌≡◌, ℕ, zero, suc, ◌+◌, ◌-◌, ◌<◌, ◌≤◌, List, [], ◌∷◌, ◌++◌, get_or, min, ltb, leb, eqb, not, arith, refl, ap, sym, ◌∙◌, inl, inr, ⊎_elim, ◌⊎◌, Bool, true, ◌&&◌, ◌||◌, Ok}
+use Rattle.std.proofs.Common.{◌≡◌, ℕ, zero, suc, ◌+◌, ◌-◌, ◌<◌, ◌≤◌, List, [], ◌∷◌, ◌++◌, get_or, min, ltb, leb, eqb}
+use Rattle.std.proofs.Common.{not, arith, refl, ap, sym, ◌∙◌, inl, inr, ⊎_elim, ◌⊎◌, Bool, true, ◌&&◌, ◌||◌, Ok}
 use Rattle.std.proofs.lemmas.Bool.{ltb-true, leb-true, eqb-true, eqb-false, and_parts, or_cases, not-true}
 use Rattle.std.proofs.lemmas.List.{append-nil}
 use Rattle.std.specs.Int.RustNames.{bit_and}
@@ -19,7 +20,8 @@ use Rattle.cx_log.specs.Item.{MayStand, entry_text}
 use Rattle.cx_log.specs.Kind.{kind_of, kinds, tag_of}
 use Rattle.cx_log.specs.Order.{Behind, HoldsWell, MayFollow, MayEnd, rank}
 use Rattle.cx_log.specs.Recording.{Event, Mark, Dma, Lines, Value}
-use Rattle.cx_log.specs.Records.{Entry, Put, Ends, may_stand, kind_at, step_at, dma_at, lines_at, asked_value_at, put_at, entry_at, record_at}
+use Rattle.cx_log.specs.Records.{Entry, Put, Ends, may_stand, kind_at, step_at, dma_at, lines_at, asked_value_at}
+use Rattle.cx_log.specs.Records.{put_at, entry_at, record_at}
 use Rattle.cx_log.specs.Text.{payload, record_text, end_text}
 use Rattle.cx_codec.proofs.Composing.{bound}
 use Rattle.cx_codec.proofs.ReadOnce.{byte_once, bytes_once, word_once}
@@ -43,7 +45,8 @@ kind_once p after k e =
     let same = done_pair (get_or kinds parts.value kind.End) k parts.mid after parts.then in
     let tag : parts.value ≡ tag_of k = sym (tag_back parts.value (ltb-true parts.value 5 passed.good)) ∙ ap
     (λ (x : Kind × Place). tag_of x.0) same in
-    takes_along p parts.mid after (parts.value ∷ []) (tag_of k ∷ []) (ap (λ (t : ℕ). t ∷ []) tag) (ap (λ (x : Kind × Place). x.1) same) (byte_once p parts.mid parts.value passed.read)
+    takes_along p parts.mid after (parts.value ∷ []) (tag_of k ∷ []) (ap (λ (t : ℕ). t ∷ []) tag)
+    (ap (λ (x : Kind × Place). x.1) same) (byte_once p parts.mid parts.value passed.read)
 
 record StepStood (behind : Behind) (k : Kind) (p : Place) (step : ℕ) (after : Place) : Type 0 where
   takes : Takes p (varint (step - behind.step)) after
@@ -60,7 +63,8 @@ step_once p after behind k step bytes e =
     let sum : behind.step + parts.value ≡ step = ap (λ (x : ℕ × Place). x.0) same in
     let distance : parts.value ≡ step - behind.step = omega (arith, sum) in
     record {
-      takes = takes_along p parts.mid after (varint parts.value) (varint (step - behind.step)) (ap varint distance) (ap (λ (x : ℕ × Place). x.1) same) (varint_once p parts.mid parts.value bytes passed.read);
+      takes = takes_along p parts.mid after (varint parts.value) (varint (step - behind.step)) (ap varint distance)
+          (ap (λ (x : ℕ × Place). x.1) same) (varint_once p parts.mid parts.value bytes passed.read);
       stands = rw sum at passed.good;
     }
 
@@ -158,7 +162,8 @@ in_order behind step rank passed = ⊎_elim
     inr (eqb-true behind.step step parts.0, leb-true behind.least rank parts.1))
     (or_cases _ _ passed)
 
-pub stands_once : (pages : ℕ) (behind : Behind) (step : ℕ) (event : Event) → may_stand behind (kind_of event) step ≡ true
+pub stands_once : (pages : ℕ) (behind : Behind) (step : ℕ) (event : Event) → may_stand behind (kind_of event) step
+    ≡ true
     → HoldsWell pages behind.lines event → MayFollow pages behind (record { step = step; event = event })
 stands_once pages behind step Mark stands well =
     let tests = and_three _ _ _ stands in
@@ -288,6 +293,7 @@ record_once pages behind p after e are read =
     let whole = takes_both p first.mid after (tag_of first.value ∷ []) (distance ++ came.rest) tag
     (takes_both first.mid second.mid after distance came.rest step.takes came.takes) in
     record {
-      takes = takes_along p after after (tag_of first.value ∷ (distance ++ came.rest)) (entry_text behind.step e) came.text refl whole;
+      takes = takes_along p after after (tag_of first.value ∷ (distance ++ came.rest)) (entry_text behind.step e)
+          came.text refl whole;
       may = came.may;
     }

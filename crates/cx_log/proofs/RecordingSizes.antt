@@ -1,5 +1,6 @@
 -- How long the text of a recording is at most.
-use Rattle.std.proofs.Common.{◌≡◌, ℕ, zero, suc, ◌+◌, ◌*◌, ◌/◌, ◌%◌, ◌^◌, ◌≤◌, List, [], ◌∷◌, ◌++◌, length, drop, ltb, eqb, cond, arith, Bool, true, false, length-append, length-take}
+use Rattle.std.proofs.Common.{◌≡◌, ℕ, zero, suc, ◌+◌, ◌*◌, ◌/◌, ◌%◌, ◌^◌, ◌≤◌, List, [], ◌∷◌, ◌++◌, length, drop, ltb}
+use Rattle.std.proofs.Common.{eqb, cond, arith, Bool, true, false, length-append, length-take}
 use Rattle.std.specs.Int.{w32, to_le_bytes}
 use Rattle.cx_map.specs.declared.TheConstants.{PAGE_SIZE}
 use Rattle.cx_csr.specs.Words.{words_of}
@@ -9,7 +10,8 @@ use Rattle.cx_ram.specs.PhysicalMemory.{is_zero, page_of}
 use Rattle.cx_log.specs.declared.header.Header.{Header}
 use Rattle.cx_log.specs.Order.{KeepsRules}
 use Rattle.cx_log.specs.Recording.{Recording}
-use Rattle.cx_log.specs.Text.{version_text, words_text, header_text, header_of, page_text, pages_text, records_text, recording_text}
+use Rattle.cx_log.specs.Text.{version_text, words_text, header_text, header_of, page_text, pages_text, records_text}
+use Rattle.cx_log.specs.Text.{recording_text}
 
 digits_few : (most n : ℕ) (t : Bool) → length (varint_within most (n / 128)) ≤ most
     → length (cond t (n ∷ []) ((128 + n % 128) ∷ varint_within most (n / 128))) ≤ suc most

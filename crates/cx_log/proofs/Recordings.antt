@@ -1,5 +1,6 @@
 -- A recording that keeps the rules is read back from its text, and what was read as one keeps them and is its text.
-use Rattle.std.proofs.Common.{◌≡◌, ℕ, zero, suc, ◌≤◌, List, [], ◌++◌, length, replicate, cond, arith, refl, ap, sym, ◌∙◌, Bool, true, false, Result, Ok, Err, append_assoc}
+use Rattle.std.proofs.Common.{◌≡◌, ℕ, zero, suc, ◌≤◌, List, [], ◌++◌, length, replicate, cond, arith, refl, ap, sym}
+use Rattle.std.proofs.Common.{◌∙◌, Bool, true, false, Result, Ok, Err, append_assoc}
 use Rattle.std.proofs.lemmas.List.{append-nil}
 use Rattle.std.specs.Str.{bytes_eq}
 use Rattle.std.proofs.lemmas.Slice.Eq.{bytes_eq-Decides}
@@ -16,7 +17,8 @@ use Rattle.cx_log.specs.Order.{IsHeader, KeepsRules, at_start}
 use Rattle.cx_log.specs.Reading.{Opened, magic_at, pages_at, opened_at, start_of}
 use Rattle.cx_log.specs.Recording.{Recording}
 use Rattle.cx_log.specs.Scan.{Scan, scan_behind, begin_records, decoded, whole_recording, recording_at}
-use Rattle.cx_log.specs.Text.{magic, behind_magic, header_text, header_of, page_count, pages_text, records_text, recording_text}
+use Rattle.cx_log.specs.Text.{magic, behind_magic, header_text, header_of, page_count, pages_text, records_text}
+use Rattle.cx_log.specs.Text.{recording_text}
 use Rattle.cx_codec.proofs.Composing.{bound}
 use Rattle.cx_codec.proofs.ReadOnce.{bytes_once}
 use Rattle.cx_codec.proofs.Texts.{takes_first, takes_second, takes_both, takes_along, bytes_behind}
@@ -42,7 +44,8 @@ magic_once p after x read =
     let first = bound _ _ (x, after) read in
     let stood = bytes_once 4 p first.mid first.value first.read in
     let tested = magic_by p.at first.value x first.mid after (bytes_eq first.value magic) refl first.then in
-    takes_along p first.mid after first.value magic ((bytes_eq-Decides first.value magic).0 tested.0) tested.1 stood.stand
+    takes_along p first.mid after first.value magic ((bytes_eq-Decides first.value magic).0 tested.0) tested.1
+    stood.stand
 
 -- What stands before the records: a header, and the memory of the pages that it counts.
 pub record IsOpened (o : Opened) : Type 0 where
@@ -153,7 +156,8 @@ unfolding recording_at opened_of
 recording_again R p after rules takes =
     let o : Opened = opened_of R in
     let records : List ℕ = records_text R.base R.events R.end in
-    let whole : Takes p (opened_text o ++ records) after = takes_along p after after _ _ (recording_parts R) refl takes in
+    let whole : Takes p (opened_text o ++ records) after = takes_along p after after _ _ (recording_parts R) refl takes
+    in
     let q : Place = behind_text p (opened_text o) (records ++ after.ahead) in
     let end : Place = record after { limit = (begin_records q).limit } in
     let opened = opened_again o p q (is_opened R rules) (takes_first p after (opened_text o) records whole) in
@@ -170,10 +174,10 @@ pub record RecordingStood (p : Place) (R : Recording) (after : Place) : Type 0 w
 recording_along : (p after : Place) (R S : Recording) → RecordingStood p R after → R ≡ S → RecordingStood p S after
 recording_along p after R S stood same = rw (← same) stood
 
-by_stop : (o : Opened) (s : Scan) (R : Recording) (after : Place) (r : Result Place ℕ) → s.stop ≡ r
+pub whole_of : (o : Opened) (s : Scan) (R : Recording) (after : Place) (r : Result Place ℕ) → s.stop ≡ r
     → whole_recording o s r ≡ Ok (R, after) → (s.stop ≡ Ok after) × (decoded o s ≡ R)
-by_stop o s R after (Err offset) stop e = cc
-by_stop o s R after (Ok q) stop e =
+whole_of o s R after (Err offset) stop e = cc
+whole_of o s R after (Ok q) stop e =
     let same : ◌≡◌ {A = Recording × Place} (decoded o s, q) (R, after) = same_ok {X = Recording × Place} _ _ e in
     (stop ∙ ap (λ (x : Recording × Place). Ok x.1) same, ap (λ (x : Recording × Place). x.0) same)
 
@@ -211,7 +215,7 @@ recording_once R p after are read =
     let o = first.value in
     let opened = opened_once o p first.mid are first.read in
     let s : Scan = scan_behind o first.mid in
-    let stop = by_stop o s R after s.stop refl first.then in
+    let stop = whole_of o s R after s.stop refl first.then in
     let scanned = records_once o.header.pages (at_start o.header.base o.header.start)
     (begin_records first.mid) after (bytes_behind p first.mid (opened_text o) are opened.takes) stop.0 in
     recording_along p after (decoded o s) R (decoded_stood o s p first.mid after opened scanned) stop.1

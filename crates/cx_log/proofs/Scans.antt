@@ -1,5 +1,6 @@
 -- Records in order are scanned whole, what was scanned whole is records in order, and a scan goes record by record.
-use Rattle.std.proofs.Common.{◌≡◌, ℕ, zero, suc, ◌+◌, ◌<◌, ◌≤◌, List, [], ◌∷◌, ◌++◌, length, arith, refl, ap, sym, ◌∙◌, Result, Ok, Err, length-append}
+use Rattle.std.proofs.Common.{◌≡◌, ℕ, zero, suc, ◌+◌, ◌<◌, ◌≤◌, List, [], ◌∷◌, ◌++◌, length, arith, refl, ap, sym, ◌∙◌}
+use Rattle.std.proofs.Common.{Result, Ok, Err, length-append}
 use Rattle.cx_map.specs.Bytes.{AreBytes}
 use Rattle.cx_map.specs.Map.{IsPageCount}
 use Rattle.cx_codec.specs.Place.{behind_text, Place, Takes, room}

@@ -1,5 +1,5 @@
 -- Steps at which a record may stand.
-use Rattle.std.proofs.Common.{◌≡◌, ℕ, ◌+◌, ◌<◌, ◌≤◌, Bool, false, arith, refl}
+use Rattle.std.proofs.Common.{◌≡◌, ℕ, ◌<◌, false, arith, refl}
 use Rattle.std.proofs.lemmas.Bool.{lt-leb, le-ltb}
 use Rattle.cx_log.specs.declared.limits.TheConstants.{STEP_LIMIT}
 use Rattle.cx_log.specs.declared.kind.Kind.{Kind}

@@ -22,8 +22,8 @@ pub record Reading : Type 0 where
   pub bytes : List ℕ
   pub ended : Bool
 
--- The output; the header that was written; how many pages are owed, and the least number that the next may have; what the
--- records so far leave.
+-- The output; the header that was written; how many pages are owed, and the least number that the next may have; what
+-- the records so far leave.
 pub record Writing : Type 0 where
   pub output : Waiting
   pub header : Header

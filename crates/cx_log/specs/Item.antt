@@ -1,5 +1,5 @@
 -- Records as items: a step, and what comes before it. The bytes of a Dma stand beside the item.
-use Rattle.std.specs.Prelude.{◌≡◌, ℕ, List, [], Bool, true, false}
+use Rattle.std.specs.Prelude.{ℕ, List, [], Bool, true, false}
 use Rattle.cx_csr.specs.declared.lines.Lines as lines
 use Rattle.cx_machine.specs.Transfers.{IsTransfer}
 use Rattle.cx_map.specs.Map.{size_of_pages}

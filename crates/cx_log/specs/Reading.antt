@@ -1,6 +1,7 @@
 -- How what stands before the records is read, field by field: each reader answers its value and the place behind it,
 -- or the offset of the first bad field.
-use Rattle.std.specs.Prelude.{ℕ, zero, suc, ◌+◌, ◌-◌, ◌*◌, ◌^◌, nat_le, ◌==◌, Bool, false, List, [], ◌∷◌, replicate, Option, None, Some, if◌then◌else◌}
+use Rattle.std.specs.Prelude.{ℕ, zero, suc, ◌+◌, ◌-◌, ◌*◌, ◌^◌, nat_le, ◌==◌, false, List, [], ◌∷◌, replicate}
+use Rattle.std.specs.Prelude.{if◌then◌else◌}
 use Rattle.std.specs.Str.{bytes_eq}
 use Rattle.cx_map.specs.Map.{size_of_pages}
 use Rattle.cx_map.specs.declared.TheConstants.{MOST_PAGES, PAGE_SIZE}
@@ -92,13 +93,6 @@ page_at pages least = do
   number ← varint_between least (pages - 1)
   bytes ← page_bytes_at
   done (record { number = number; bytes = bytes })
-
--- the next of the pages that are left, or none behind the last
-unfoldable pub next_page_at : ℕ → ℕ → ℕ → Reader (Option Page)
-next_page_at pages zero least = done None
-next_page_at pages (suc left) least = do
-  page ← page_at pages least
-  done (Some page)
 
 -- so many pages, put into a memory
 abbrev pub pages_at : ℕ → ℕ → ℕ → List ℕ → Reader (List ℕ)

@@ -1,5 +1,6 @@
 -- The records of an input, up to End or to the first bad field. No step of a machine occurs here.
-use Rattle.std.specs.Prelude.{ℕ, zero, suc, ◌+◌, ◌==◌, List, [], ◌∷◌, length, min, Option, None, Some, Result, Ok, Err, if◌then◌else◌}
+use Rattle.std.specs.Prelude.{ℕ, zero, suc, ◌+◌, ◌==◌, List, [], ◌∷◌, length, min, Option, None, Some, Result, Ok, Err}
+use Rattle.std.specs.Prelude.{if◌then◌else◌}
 use Rattle.cx_codec.specs.Place.{Place, Reader, ◌>>=◌}
 use Rattle.cx_log.specs.declared.limits.TheConstants.{MOST_TEXT}
 use Rattle.cx_log.specs.Order.{Behind, at_start, behind_it}

@@ -1,6 +1,8 @@
 //! Fields of a recording that have to pass a test: another value is bad at its first byte.
 
-ghost use Rattle.std.specs.Prelude.{◌≡◌, ◌≢◌, ◌+◌, ◌*◌, ◌^◌, ◌<◌, ◌≤◌, nat_le, nat_lt, ◌==◌, ◌&&◌, not, true, IfOk, OnOk, IsSome, IsTrue};
+ghost use Rattle.std.specs.Prelude.{◌≡◌, ◌≢◌, ◌+◌, ◌*◌, ◌^◌, ◌<◌, ◌≤◌, nat_le, nat_lt, ◌==◌, ◌&&◌, not, true, IfOk};
+ghost use Rattle.std.specs.Prelude.{◌↔◌};
+ghost use Rattle.std.specs.Prelude.{OnOk, IsSome, IsTrue};
 ghost use Rattle.std.specs.Int.RustNames.{bit_and};
 ghost use Rattle.cx_map.specs.Map.{size_of_pages};
 ghost use Rattle.cx_codec.specs.Fields.{byte_at, varint_at, word_at};
@@ -37,7 +39,8 @@ pub(crate) fn varint_between<S: Source>(
 ) -> Result<u64, LogFault>
     requires { IsTrue bytes.old.live }
     ensures reads { IsSome (S.left source.old) → Reads log_met (λ n. n) (varint_between least greatest)
-        (over bytes.old (S.left source.old) (S.given source.old)) (over bytes.new (S.left source.new) (S.given source.new)) result }
+        (over bytes.old (S.left source.old) (S.given source.old))
+        (over bytes.new (S.left source.new) (S.given source.new)) result }
     ensures goes { Goes LogFault.ReadFault bytes.old bytes.new (S.faults source.old) (S.faults source.new) result }
     ensures at { OnOk result (bytes.old.at < bytes.new.at) }
     ensures within { IfOk result (λ n. (least ≤ n) × (n ≤ greatest)) }
@@ -55,7 +58,8 @@ pub(crate) fn varint_between<S: Source>(
 pub(crate) fn flag<S: Source>(bytes: &mut Bytes, source: &mut S) -> Result<u8, LogFault>
     requires { IsTrue bytes.old.live }
     ensures reads { IsSome (S.left source.old) → Reads log_met (λ b. b) flag_at
-        (over bytes.old (S.left source.old) (S.given source.old)) (over bytes.new (S.left source.new) (S.given source.new)) result }
+        (over bytes.old (S.left source.old) (S.given source.old))
+        (over bytes.new (S.left source.new) (S.given source.new)) result }
     ensures goes { Goes LogFault.ReadFault bytes.old bytes.new (S.faults source.old) (S.faults source.new) result }
 {
     let start = bytes.at();
@@ -77,8 +81,10 @@ pub(crate) fn state_word<S: Source>(
 ) -> Result<u32, LogFault>
     requires live { IsTrue bytes.old.live }
     requires index { index < 58 }
-    ensures reads { IsSome (S.left source.old) → Reads log_met (λ w. w) (checked (λ w. admits pages before (rule_at index) w) word_at)
-        (over bytes.old (S.left source.old) (S.given source.old)) (over bytes.new (S.left source.new) (S.given source.new)) result }
+    ensures reads { IsSome (S.left source.old)
+        → Reads log_met (λ w. w) (checked (λ w. admits pages before (rule_at index) w) word_at)
+        (over bytes.old (S.left source.old) (S.given source.old))
+        (over bytes.new (S.left source.new) (S.given source.new)) result }
     ensures goes { Goes LogFault.ReadFault bytes.old bytes.new (S.faults source.old) (S.faults source.new) result }
     ensures fits { IfOk result (Admits pages before (rule_at index)) }
 {
@@ -95,7 +101,8 @@ pub(crate) fn state_word<S: Source>(
 pub(crate) fn tag<S: Source>(bytes: &mut Bytes, source: &mut S) -> Result<u8, LogFault>
     requires { IsTrue bytes.old.live }
     ensures reads { IsSome (S.left source.old) → Reads log_met (λ t. t) (checked (λ t. nat_lt t 5) byte_at)
-        (over bytes.old (S.left source.old) (S.given source.old)) (over bytes.new (S.left source.new) (S.given source.new)) result }
+        (over bytes.old (S.left source.old) (S.given source.old))
+        (over bytes.new (S.left source.new) (S.given source.new)) result }
     ensures goes { Goes LogFault.ReadFault bytes.old bytes.new (S.faults source.old) (S.faults source.new) result }
     ensures at { OnOk result (bytes.old.at < bytes.new.at) }
     ensures within { IfOk result (λ t. t < 5) }
@@ -128,8 +135,10 @@ pub(crate) fn distance<S: Source>(
 ) -> Result<u64, LogFault>
     requires live { IsTrue bytes.old.live }
     requires small { behind.now.step ≤ STEP_LIMIT }
-    ensures reads { IsSome (S.left source.old) → Reads log_met (λ d. d) (checked (λ d. may_stand behind.now kind (behind.now.step + d)) varint_at)
-        (over bytes.old (S.left source.old) (S.given source.old)) (over bytes.new (S.left source.new) (S.given source.new)) result }
+    ensures reads { IsSome (S.left source.old)
+        → Reads log_met (λ d. d) (checked (λ d. may_stand behind.now kind (behind.now.step + d)) varint_at)
+        (over bytes.old (S.left source.old) (S.given source.old))
+        (over bytes.new (S.left source.new) (S.given source.new)) result }
     ensures goes { Goes LogFault.ReadFault bytes.old bytes.new (S.faults source.old) (S.faults source.new) result }
     ensures at { OnOk result (bytes.old.at < bytes.new.at) }
     ensures stands { IfOk result (λ d. may_stand behind.now kind (behind.now.step + d) ≡ true) }
@@ -152,8 +161,11 @@ pub(crate) fn ram_place<S: Source>(
 ) -> Result<u32, LogFault>
     requires live { IsTrue bytes.old.live }
     requires pages { pages ≤ MOST_PAGES }
-    ensures reads { IsSome (S.left source.old) → Reads log_met (λ w. w) (checked (λ w. nat_le RAM_START w && nat_lt w (RAM_START + size_of_pages pages)) word_at)
-        (over bytes.old (S.left source.old) (S.given source.old)) (over bytes.new (S.left source.new) (S.given source.new)) result }
+    ensures reads { IsSome (S.left source.old)
+        → Reads log_met (λ w. w) (checked (λ w. nat_le RAM_START w && nat_lt w (RAM_START + size_of_pages pages))
+        word_at)
+        (over bytes.old (S.left source.old) (S.given source.old))
+        (over bytes.new (S.left source.new) (S.given source.new)) result }
     ensures goes { Goes LogFault.ReadFault bytes.old bytes.new (S.faults source.old) (S.faults source.new) result }
     ensures at { OnOk result (bytes.old.at < bytes.new.at) }
     ensures within { IfOk result (λ w. (RAM_START ≤ w) × (w < RAM_START + size_of_pages pages)) }
@@ -183,8 +195,10 @@ pub(crate) fn lines_word<S: Source>(
     source: &mut S,
 ) -> Result<u32, LogFault>
     requires { IsTrue bytes.old.live }
-    ensures reads { IsSome (S.left source.old) → Reads log_met (λ w. w) (checked (λ w. bit_and w LINE_INTERRUPTS == w && not (w == standing.0)) word_at)
-        (over bytes.old (S.left source.old) (S.given source.old)) (over bytes.new (S.left source.new) (S.given source.new)) result }
+    ensures reads { IsSome (S.left source.old)
+        → Reads log_met (λ w. w) (checked (λ w. bit_and w LINE_INTERRUPTS == w && not (w == standing.0)) word_at)
+        (over bytes.old (S.left source.old) (S.given source.old))
+        (over bytes.new (S.left source.new) (S.given source.new)) result }
     ensures goes { Goes LogFault.ReadFault bytes.old bytes.new (S.faults source.old) (S.faults source.new) result }
     ensures at { OnOk result (bytes.old.at < bytes.new.at) }
     ensures within { IfOk result (IsWithin LINE_INTERRUPTS) }
@@ -199,11 +213,10 @@ pub(crate) fn lines_word<S: Source>(
     Ok(word)
 }
 
-// Whether a word is lines that the hart has, and others than those that stand.
-fn is_change(word: u32, standing: Lines) -> bool
+/// Whether a word is lines that the hart has, and others than those that stand.
+pub(crate) fn is_change(word: u32, standing: Lines) -> bool
     ensures test { result ≡ (bit_and word LINE_INTERRUPTS == word && not (word == standing.0)) }
-    ensures within { IsTrue result → IsWithin LINE_INTERRUPTS word }
-    ensures other { IsTrue result → word ≢ standing.0 }
+    ensures change { IsTrue result ↔ (IsWithin LINE_INTERRUPTS word × (word ≢ standing.0)) }
 {
     word & LINE_INTERRUPTS == word && word != standing.0
 }

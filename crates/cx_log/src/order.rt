@@ -1,17 +1,21 @@
 //! What the records so far leave for the next one.
 
 ghost use Rattle.std.specs.Prelude.{◌≡◌, ◌≢◌, ◌+◌, ◌<◌, ◌≤◌, ◌^◌, List, ℕ};
-ghost use Rattle.cx_log.specs.Item.{behind_entry, entry_of};
+ghost use Rattle.std.specs.Prelude.{◌↔◌, IsTrue, length};
+ghost use Rattle.cx_log.specs.Item.{HoldsItem, IsDma, MayStand, behind_entry, entry_of};
 ghost use Rattle.cx_log.specs.Order.{at_start, next_mark};
 ghost use Rattle.cx_log.specs.Records.{goes_on, may_stand};
 
+use crate::fields::is_change;
 use crate::item::{Item, What};
 use crate::kind::Kind;
 use crate::limits::{MARK_DISTANCE, STEP_LIMIT};
 use cx_csr::{Lines, State};
+use cx_map::{MOST_PAGES, PAGE_SIZE, is_in_ram};
+use cx_ram::are_bytes;
 
-/// What the records so far leave: the last record's step, or base; the least rank that may stand at it; the step of the next
-/// mark; the interrupt lines that stand.
+/// What the records so far leave: the last record's step, or base; the least rank that may stand at it; the step of the
+/// next mark; the interrupt lines that stand.
 #[derive(Clone, Copy, Debug, PartialEq, Eq)]
 pub struct Behind {
     /// The step of the last record, or base.
@@ -22,6 +26,23 @@ pub struct Behind {
     pub mark: u64,
     /// The interrupt lines that stand.
     pub lines: Lines,
+}
+
+// Whether a device may write these bytes to RAM of so many pages, from a place on.
+fn is_transfer(pages: u32, place: u32, bytes: &[u8]) -> bool
+    requires { pages ≤ MOST_PAGES }
+    ensures { IsTrue result ↔ IsDma pages bytes.now place }
+{
+    are_bytes(bytes);
+    let size = pages as usize * PAGE_SIZE;
+    !bytes.is_empty() && bytes.len() <= PAGE_SIZE && is_in_ram(size, place, bytes.len() as u32)
+}
+
+// Every value of 32 bits is one.
+fn is_word(_value: u32) -> bool
+    ensures { IsTrue result ↔ (_value < 2 ^ 32) }
+{
+    true
 }
 
 impl Behind {
@@ -57,6 +78,30 @@ impl Behind {
         ensures { result ≡ goes_on self.now step kind }
     {
         self.step < step || (self.step == step && self.least <= kind.rank())
+    }
+
+    /// Whether an item may stand behind the records so far, in a recording with so many pages of RAM. A Dma has these
+    /// bytes.
+    #[tactic(auto, using(crate::proofs::Following::stands, crate::proofs::Following::stood))]
+    pub fn may_follow(&self, pages: u32, item: &Item, bytes: &[u8]) -> bool
+        requires { pages ≤ MOST_PAGES }
+        ensures { IsTrue result ↔ MayStand pages self.now (entry_of bytes.now item.now) }
+    {
+        self.may_stand(item.what.kind(), item.step) && self.may_hold(pages, &item.what, bytes)
+    }
+
+    // Whether an item may hold this.
+    #[tactic(auto, using(crate::proofs::Following::other_lines, crate::proofs::Following::other_bits))]
+    fn may_hold(&self, pages: u32, what: &What, bytes: &[u8]) -> bool
+        requires { pages ≤ MOST_PAGES }
+        ensures { IsTrue result ↔ HoldsItem pages self.now.lines bytes.now what.now }
+    {
+        match *what {
+            What::Dma(place) => is_transfer(pages, place, bytes),
+            What::Lines(lines) => is_change(lines.0, self.lines),
+            What::Value(value) => is_word(value),
+            What::Mark | What::End => true,
+        }
     }
 
     /// What an item leaves.

@@ -1,9 +1,10 @@
 //! Reading a recording from a source, record by record.
 
-ghost use Rattle.std.specs.Prelude.{◌≡◌, ◌+◌, ◌<◌, ◌≤◌, false, is_ok, IfOk, OnOk, IsSome, IsTrue};
+ghost use Rattle.std.specs.Prelude.{◌≡◌, ◌+◌, ◌<◌, ◌≤◌, [], false, is_ok, unwrap_or, IfOk, OnOk, IsSome, IsTrue};
 ghost use Rattle.cx_io.specs.Cause.{HasCause};
 ghost use Rattle.cx_codec.specs.Reads.{Ends, Goes, Opens, Reads, always, over};
-ghost use Rattle.cx_log.specs.Engine.{Gave, IsOpened, SameRecording, Turns, header_read, input_of, opened_header_at, option_page_with, turned_page_at};
+ghost use Rattle.cx_log.specs.Engine.{Gave, IsOpened, SameRecording, Turns, header_read, input_of, opened_header_at};
+ghost use Rattle.cx_log.specs.Engine.{option_page_with, turned_page_at};
 ghost use Rattle.cx_log.specs.Fault.{log_met};
 ghost use Rattle.cx_log.specs.Item.{entry_of};
 ghost use Rattle.cx_log.specs.Order.{IsHeader};
@@ -42,15 +43,24 @@ impl Model for LogReader {
 
     ghost Value = { Reading };
 
-    ghost view = { λ r. record { input = r.bytes; header = r.header; left = r.left; least = r.least; behind = r.behind; bytes = r.transfer; ended = r.ended } };
+    ghost view = { λ r. record {
+      input = r.bytes;
+      header = r.header;
+      left = r.left;
+      least = r.least;
+      behind =
+          r.behind;
+      bytes = r.transfer;
+      ended = r.ended;
+    } };
 
     ghost invariant = { λ r. IsAmong r.header r.least r.behind };
 }
 
 impl LogReader {
-    /// Reads the header of a recording, of either version, behind its magic. `Format` comes exactly where a field of it is
-    /// bad: it isn't whole, breaks its rule, or is too great. `ReadFault` comes only where the source's count of faults rose,
-    /// and `NoMemory` where memory for the bytes of a Dma is refused; nothing was read then.
+    /// Reads the header of a recording, of either version, behind its magic. `Format` comes exactly where a field of it
+    /// is bad: it isn't whole, breaks its rule, or is too great. `ReadFault` comes only where the source's count of
+    /// faults rose, and `NoMemory` where memory for the bytes of a Dma is refused; nothing was read then.
     pub fn open<S: Source>(
         alloc: Global,
         bytes: Bytes,
@@ -92,20 +102,24 @@ impl LogReader {
         &self.header
     }
 
-    /// Reads the next page: its bytes into `into`, and answers its number; None exactly behind the last page. Behind the last
-    /// page the records begin, which have a limit of 2^40 bytes. `Format` comes exactly where its number isn't above the last
-    /// page's or isn't below the count of pages, where its bytes are all zero, and where the input ends inside it. `ReadFault`
-    /// comes only where the source's count of faults rose.
+    /// Reads the next page: its bytes into `into`, and answers its number; None exactly behind the last page. Behind
+    /// the last page the records begin, which have a limit of 2^40 bytes. `Format` comes exactly where its number isn't
+    /// above the last page's or isn't below the count of pages, where its bytes are all zero, and where the input ends
+    /// inside it. `ReadFault` comes only where the source's count of faults rose.
     pub fn next_page<S: Source>(
         &mut self,
         into: &mut [u8; PAGE_SIZE],
         source: &mut S,
     ) -> Result<Option<u32>, LogFault>
         requires { IsTrue self.old.input.live }
-        ensures reads { IsSome (S.left source.old) → Reads log_met (option_page_with into.new) (turned_page_at self.old.header.pages self.old.left self.old.least)
-            (over self.old.input (S.left source.old) (S.given source.old)) (over self.new.input (S.left source.new) (S.given source.new)) result }
+        ensures reads { IsSome (S.left source.old)
+            → Reads log_met (option_page_with into.new) (turned_page_at self.old.header.pages self.old.left
+            self.old.least)
+            (over self.old.input (S.left source.old) (S.given source.old)) (over self.new.input (S.left source.new)
+            (S.given source.new)) result }
         ensures turns { IfOk result (Turns self.old self.new into.new) }
-        ensures same { (self.new.header ≡ self.old.header) × (self.new.behind ≡ self.old.behind) × (self.new.ended ≡ self.old.ended) }
+        ensures same { (self.new.header ≡ self.old.header) × (self.new.behind ≡ self.old.behind)
+            × (self.new.ended ≡ self.old.ended) }
         ensures live { self.new.input.live ≡ is_ok result }
         ensures cause { HasCause LogFault.ReadFault (S.faults source.old) (S.faults source.new) result }
     {
@@ -119,20 +133,23 @@ impl LogReader {
         Ok(Some(number))
     }
 
-    /// Reads the next record. The bytes of a Dma are those of `dma_bytes` then, until the next call. `Format` comes exactly
-    /// where a field of it is bad: the tag is none, the record may not stand at its step behind those before it, it writes
-    /// bytes outside RAM, its lines are those that stand or such as no device has, or it isn't whole. `ReadFault` comes only
-    /// where the source's count of faults rose. It takes no memory.
+    /// Reads the next record. The bytes of a Dma are those of `dma_bytes` then, until the next call. `Format` comes
+    /// exactly where a field of it is bad: the tag is none, the record may not stand at its step behind those before
+    /// it, it writes bytes outside RAM, its lines are those that stand or such as no device has, or it isn't whole.
+    /// `ReadFault` comes only where the source's count of faults rose. It takes no memory.
     pub fn next<S: Source>(&mut self, source: &mut S) -> Result<Item, LogFault>
         requires live { IsTrue self.old.input.live }
         requires pages { self.old.left ≡ 0 }
         requires more { self.old.ended ≡ false }
-        ensures reads { IsSome (S.left source.old) → Reads log_met (entry_of self.new.bytes) (record_at self.old.header.pages self.old.behind)
-            (over self.old.input (S.left source.old) (S.given source.old)) (over self.new.input (S.left source.new) (S.given source.new)) result }
+        ensures reads { IsSome (S.left source.old)
+            → Reads log_met (entry_of self.new.bytes) (record_at self.old.header.pages self.old.behind)
+            (over self.old.input (S.left source.old) (S.given source.old)) (over self.new.input (S.left source.new)
+            (S.given source.new)) result }
         ensures gave { IfOk result (Gave self.old self.new) }
         ensures same { SameRecording self.old self.new }
         ensures at { OnOk result (self.old.input.at < self.new.input.at) }
-        ensures goes { Goes LogFault.ReadFault self.old.input self.new.input (S.faults source.old) (S.faults source.new) result }
+        ensures goes { Goes LogFault.ReadFault self.old.input self.new.input (S.faults source.old) (S.faults source.new)
+            result }
     {
         let kind = kind(&mut self.bytes, source)?;
         let step = step(&mut self.bytes, &self.behind, kind, source)?;
@@ -158,14 +175,17 @@ impl LogReader {
         self.transfer.bytes()
     }
 
-    /// Sees that nothing follows End. `Format` comes exactly where a byte does, and tells its offset. `ReadFault` comes only
-    /// where the source's count of faults rose.
+    /// Sees that nothing follows End: the source has nothing left then. `Format` comes exactly where a byte does, and
+    /// tells its offset. `ReadFault` comes only where the source's count of faults rose.
     pub fn close<S: Source>(&mut self, source: &mut S) -> Result<(), LogFault>
         requires { IsTrue self.old.input.live }
         ensures ends { IsSome (S.left source.old) → Ends log_met (always tt) tt close_at
-            (over self.old.input (S.left source.old) (S.given source.old)) (over self.new.input (S.left source.new) (S.given source.new)) result }
+            (over self.old.input (S.left source.old) (S.given source.old)) (over self.new.input (S.left source.new)
+            (S.given source.new)) result }
+        ensures spent { IsSome (S.left source.old) → OnOk result (unwrap_or (S.left source.new) [] ≡ []) }
         ensures same { self.new ≡ record self.old { input = self.new.input } }
-        ensures goes { Goes LogFault.ReadFault self.old.input self.new.input (S.faults source.old) (S.faults source.new) result }
+        ensures goes { Goes LogFault.ReadFault self.old.input self.new.input (S.faults source.old) (S.faults source.new)
+            result }
     {
         let start = self.bytes.at();
         if self.bytes.at_end(source)? {

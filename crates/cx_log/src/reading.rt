@@ -7,7 +7,8 @@ ghost use Rattle.cx_ram.specs.PhysicalMemory.{is_zero};
 ghost use Rattle.cx_log.specs.Engine.{begun_by, page_with};
 ghost use Rattle.cx_log.specs.Fault.{log_met};
 ghost use Rattle.cx_log.specs.Order.{IsAnnounced, IsHeader};
-ghost use Rattle.cx_log.specs.Reading.{announced_at, second_version_at, state_words_at, header_at, page_bytes_at, page_at};
+ghost use Rattle.cx_log.specs.Reading.{announced_at, second_version_at, state_words_at, header_at, page_bytes_at};
+ghost use Rattle.cx_log.specs.Reading.{page_at};
 
 use crate::fault::LogFault;
 use crate::fields::{flag, state_word, varint_between};
@@ -34,7 +35,8 @@ pub struct Announced {
 fn second_version<S: Source>(bytes: &mut Bytes, source: &mut S) -> Result<Announced, LogFault>
     requires { IsTrue bytes.old.live }
     ensures reads { IsSome (S.left source.old) → Reads log_met (λ a. a) second_version_at
-        (over bytes.old (S.left source.old) (S.given source.old)) (over bytes.new (S.left source.new) (S.given source.new)) result }
+        (over bytes.old (S.left source.old) (S.given source.old))
+        (over bytes.new (S.left source.new) (S.given source.new)) result }
     ensures goes { Goes LogFault.ReadFault bytes.old bytes.new (S.faults source.old) (S.faults source.new) result }
     ensures rules { IfOk result IsAnnounced }
 {
@@ -54,7 +56,8 @@ pub(crate) fn announcement<S: Source>(
 ) -> Result<Announced, LogFault>
     requires { IsTrue bytes.old.live }
     ensures reads { IsSome (S.left source.old) → Reads log_met (λ a. a) announced_at
-        (over bytes.old (S.left source.old) (S.given source.old)) (over bytes.new (S.left source.new) (S.given source.new)) result }
+        (over bytes.old (S.left source.old) (S.given source.old))
+        (over bytes.new (S.left source.new) (S.given source.new)) result }
     ensures goes { Goes LogFault.ReadFault bytes.old bytes.new (S.faults source.old) (S.faults source.new) result }
     ensures rules { IfOk result IsAnnounced }
 {
@@ -77,7 +80,8 @@ pub(crate) fn state_words<S: Source>(
 ) -> Result<[u32; 58], LogFault>
     requires { IsTrue bytes.old.live }
     ensures reads { IsSome (S.left source.old) → Reads log_met (λ words. words) (state_words_at pages)
-        (over bytes.old (S.left source.old) (S.given source.old)) (over bytes.new (S.left source.new) (S.given source.new)) result }
+        (over bytes.old (S.left source.old) (S.given source.old))
+        (over bytes.new (S.left source.new) (S.given source.new)) result }
     ensures goes { Goes LogFault.ReadFault bytes.old bytes.new (S.faults source.old) (S.faults source.new) result }
     ensures fit { IfOk result (AllFit pages) }
 {
@@ -96,7 +100,8 @@ pub(crate) fn state_words<S: Source>(
 pub(crate) fn header<S: Source>(bytes: &mut Bytes, source: &mut S) -> Result<Header, LogFault>
     requires { IsTrue bytes.old.live }
     ensures reads { IsSome (S.left source.old) → Reads log_met (λ h. h) header_at
-        (over bytes.old (S.left source.old) (S.given source.old)) (over bytes.new (S.left source.new) (S.given source.new)) result }
+        (over bytes.old (S.left source.old) (S.given source.old))
+        (over bytes.new (S.left source.new) (S.given source.new)) result }
     ensures goes { Goes LogFault.ReadFault bytes.old bytes.new (S.faults source.old) (S.faults source.new) result }
     ensures rules { IfOk result IsHeader }
 {
@@ -120,7 +125,8 @@ fn page_bytes<S: Source>(bytes: &mut Bytes, into: &mut [u8], source: &mut S) -> 
     requires live { IsTrue bytes.old.live }
     requires size { length into.old ≡ PAGE_SIZE }
     ensures reads { IsSome (S.left source.old) → Reads log_met (always into.new) page_bytes_at
-        (over bytes.old (S.left source.old) (S.given source.old)) (over bytes.new (S.left source.new) (S.given source.new)) result }
+        (over bytes.old (S.left source.old) (S.given source.old))
+        (over bytes.new (S.left source.new) (S.given source.new)) result }
     ensures goes { Goes LogFault.ReadFault bytes.old bytes.new (S.faults source.old) (S.faults source.new) result }
     ensures some { OnOk result (is_zero into.new ≡ false) }
     ensures at { OnOk result (bytes.old.at < bytes.new.at) }
@@ -146,7 +152,8 @@ pub(crate) fn page<S: Source>(
     requires pages { 1 ≤ pages }
     requires size { length into.old ≡ PAGE_SIZE }
     ensures reads { IsSome (S.left source.old) → Reads log_met (page_with into.new) (page_at pages least)
-        (over bytes.old (S.left source.old) (S.given source.old)) (over bytes.new (S.left source.new) (S.given source.new)) result }
+        (over bytes.old (S.left source.old) (S.given source.old))
+        (over bytes.new (S.left source.new) (S.given source.new)) result }
     ensures goes { Goes LogFault.ReadFault bytes.old bytes.new (S.faults source.old) (S.faults source.new) result }
     ensures within { IfOk result (λ n. (least ≤ n) × (n < pages)) }
     ensures some { OnOk result (is_zero into.new ≡ false) }

@@ -23,7 +23,8 @@ use cx_map::{MOST_PAGES, PAGE_SIZE, RAM_START};
 pub(crate) fn kind<S: Source>(bytes: &mut Bytes, source: &mut S) -> Result<Kind, LogFault>
     requires { IsTrue bytes.old.live }
     ensures reads { IsSome (S.left source.old) → Reads log_met (λ k. k) kind_at
-        (over bytes.old (S.left source.old) (S.given source.old)) (over bytes.new (S.left source.new) (S.given source.new)) result }
+        (over bytes.old (S.left source.old) (S.given source.old))
+        (over bytes.new (S.left source.new) (S.given source.new)) result }
     ensures goes { Goes LogFault.ReadFault bytes.old bytes.new (S.faults source.old) (S.faults source.new) result }
     ensures at { OnOk result (bytes.old.at < bytes.new.at) }
 {
@@ -41,7 +42,8 @@ pub(crate) fn step<S: Source>(
     requires live { IsTrue bytes.old.live }
     requires small { behind.now.step ≤ STEP_LIMIT }
     ensures reads { IsSome (S.left source.old) → Reads log_met (λ step. step) (step_at behind.now kind)
-        (over bytes.old (S.left source.old) (S.given source.old)) (over bytes.new (S.left source.new) (S.given source.new)) result }
+        (over bytes.old (S.left source.old) (S.given source.old))
+        (over bytes.new (S.left source.new) (S.given source.new)) result }
     ensures goes { Goes LogFault.ReadFault bytes.old bytes.new (S.faults source.old) (S.faults source.new) result }
     ensures at { OnOk result (bytes.old.at < bytes.new.at) }
     ensures stands { IfOk result (λ step. may_stand behind.now kind step ≡ true) }
@@ -60,7 +62,8 @@ fn dma<S: Source>(
     requires live { IsTrue bytes.old.live }
     requires pages { pages ≤ MOST_PAGES }
     ensures reads { IsSome (S.left source.old) → Reads log_met (dma_event transfer.new) (dma_at pages)
-        (over bytes.old (S.left source.old) (S.given source.old)) (over bytes.new (S.left source.new) (S.given source.new)) result }
+        (over bytes.old (S.left source.old) (S.given source.old))
+        (over bytes.new (S.left source.new) (S.given source.new)) result }
     ensures goes { Goes LogFault.ReadFault bytes.old bytes.new (S.faults source.old) (S.faults source.new) result }
     ensures at { OnOk result (bytes.old.at < bytes.new.at) }
     ensures holds { IfOk result (IsDma pages transfer.new) }
@@ -78,7 +81,8 @@ fn dma<S: Source>(
 fn lines<S: Source>(bytes: &mut Bytes, standing: Lines, source: &mut S) -> Result<Lines, LogFault>
     requires { IsTrue bytes.old.live }
     ensures reads { IsSome (S.left source.old) → Reads log_met lines_event (lines_at standing)
-        (over bytes.old (S.left source.old) (S.given source.old)) (over bytes.new (S.left source.new) (S.given source.new)) result }
+        (over bytes.old (S.left source.old) (S.given source.old))
+        (over bytes.new (S.left source.new) (S.given source.new)) result }
     ensures goes { Goes LogFault.ReadFault bytes.old bytes.new (S.faults source.old) (S.faults source.new) result }
     ensures at { OnOk result (bytes.old.at < bytes.new.at) }
     ensures holds { IfOk result (λ lines. AreLines lines × (lines ≢ standing)) }
@@ -91,7 +95,8 @@ fn lines<S: Source>(bytes: &mut Bytes, standing: Lines, source: &mut S) -> Resul
 fn value<S: Source>(bytes: &mut Bytes, source: &mut S) -> Result<u32, LogFault>
     requires { IsTrue bytes.old.live }
     ensures reads { IsSome (S.left source.old) → Reads log_met value_event asked_value_at
-        (over bytes.old (S.left source.old) (S.given source.old)) (over bytes.new (S.left source.new) (S.given source.new)) result }
+        (over bytes.old (S.left source.old) (S.given source.old))
+        (over bytes.new (S.left source.new) (S.given source.new)) result }
     ensures goes { Goes LogFault.ReadFault bytes.old bytes.new (S.faults source.old) (S.faults source.new) result }
     ensures at { OnOk result (bytes.old.at < bytes.new.at) }
 {
@@ -111,8 +116,10 @@ pub(crate) fn what<S: Source>(
 ) -> Result<What, LogFault>
     requires live { IsTrue bytes.old.live }
     requires pages { pages ≤ MOST_PAGES }
-    ensures reads { IsSome (S.left source.old) → Reads log_met (entry_with transfer.new step) (entry_at pages behind.now step kind)
-        (over bytes.old (S.left source.old) (S.given source.old)) (over bytes.new (S.left source.new) (S.given source.new)) result }
+    ensures reads { IsSome (S.left source.old)
+        → Reads log_met (entry_with transfer.new step) (entry_at pages behind.now step kind)
+        (over bytes.old (S.left source.old) (S.given source.old))
+        (over bytes.new (S.left source.new) (S.given source.new)) result }
     ensures goes { Goes LogFault.ReadFault bytes.old bytes.new (S.faults source.old) (S.faults source.new) result }
     ensures at { OnOk result (bytes.old.at ≤ bytes.new.at) }
     ensures kind { IfOk result (λ what. kind_of_what what ≡ kind) }

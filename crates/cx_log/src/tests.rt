@@ -11,8 +11,8 @@ use std::alloc::{AllocError, Global};
 use std::process::Abort;
 use std::test::Fail;
 
-/// The recording of one page of RAM, from step 0 with the program counter at its first byte, in machine mode: `addi x1, x0, 5`,
-/// a jump to itself, no event, and End at 2. Its records begin at offset 4336.
+/// The recording of one page of RAM, from step 0 with the program counter at its first byte, in machine mode: `addi x1,
+/// x0, 5`, a jump to itself, no event, and End at 2. Its records begin at offset 4336.
 fn recording(alloc: Global) -> Result<Vec<u8>, AllocError> {
     let mut bytes = b"CXR1\x01\x00\x00\x00\x00\x80".to_vec(alloc)?;
     bytes.extend_from_slice(&[0; 124])?;
@@ -68,7 +68,8 @@ impl Source for Drip {
     }
 }
 
-/// Reads a recording of at most one page and ten records to its end: the step of End, and how many records stand before it.
+/// Reads a recording of at most one page and ten records to its end: the step of End, and how many records stand before
+/// it.
 fn read_whole<S: Source>(
     rt: &impl Abort,
     alloc: Global,
@@ -94,8 +95,8 @@ fn read_whole<S: Source>(
     panic!(rt; "no End");
 }
 
-/// Sees that the recording is read as wanted with so many bytes from an offset on replaced, also from a source that gives one
-/// byte a call.
+/// Sees that the recording is read as wanted with so many bytes from an offset on replaced, also from a source that
+/// gives one byte a call.
 fn reads(
     rt: &impl Abort,
     alloc: Global,
@@ -223,8 +224,8 @@ fn a_fault_of_the_source_is_told(rt: HostRuntime) -> Result<(), Fail> {
     Ok(())
 }
 
-/// Copies the next record, where the writer stands behind the same ones as the reader. Answers the step of End, which it
-/// doesn't write.
+/// Copies the next record, where the writer stands behind the same ones as the reader. Answers the step of End, which
+/// it doesn't write.
 fn copy_record<S: Source, T: Sink>(
     reader: &mut LogReader,
     writer: &mut LogWriter,
@@ -291,9 +292,10 @@ fn copy<S: Source, T: Sink>(
 #[test]
 fn a_copy_is_the_same(rt: HostRuntime) -> Result<(), Fail> {
     let alloc = rt.alloc();
-    let records =
-        b"\x02\x00\x08\x00\x00\x00\x03\x00\x07\x00\x00\x00\x01\x01\xff\x0f\x00\x80\x01\xab\x01\x00\x00\x00\x00\x80\x02\xab\xcd\x04\xff\xff\x03\x00\x01";
-    let first = replaced(alloc, &recording(alloc)?, 4336, 2, records)?;
+    let mut records = b"\x02\x00\x08\x00\x00\x00\x03\x00\x07\x00\x00\x00".to_vec(alloc)?;
+    records.extend_from_slice(b"\x01\x01\xff\x0f\x00\x80\x01\xab")?;
+    records.extend_from_slice(b"\x01\x00\x00\x00\x00\x80\x02\xab\xcd\x04\xff\xff\x03\x00\x01")?;
+    let first = replaced(alloc, &recording(alloc)?, 4336, 2, &records)?;
     let second = replaced(alloc, &first, 4, 0, b"\x00\x01")?;
     for (input, version, split) in [(&first, 1, false), (&second, 2, true)] {
         let mut source = MemSource::new(input.to_vec(alloc)?, Vec::new(alloc));

@@ -17,7 +17,8 @@ use cx_io::Sink;
 fn put_words<T: Sink>(out: &mut Out, words: &[u32], sink: &mut T) -> Result<(), OutFault>
     requires { IsTrue out.old.live }
     ensures { Puts OutFault.WriteFault (words_text words.now)
-        (onto out.old (T.held sink.old) (T.faults sink.old)) (onto out.new (T.held sink.new) (T.faults sink.new)) result }
+        (onto out.old (T.held sink.old) (T.faults sink.old)) (onto out.new (T.held sink.new) (T.faults sink.new))
+        result }
 {
     for word in words {
         out.put_word(*word, sink)?;
@@ -34,7 +35,8 @@ fn put_version<T: Sink>(
 ) -> Result<(), OutFault>
     requires { IsTrue out.old.live }
     ensures { Puts OutFault.WriteFault (version_text version split)
-        (onto out.old (T.held sink.old) (T.faults sink.old)) (onto out.new (T.held sink.new) (T.faults sink.new)) result }
+        (onto out.old (T.held sink.old) (T.faults sink.old)) (onto out.new (T.held sink.new) (T.faults sink.new))
+        result }
 {
     if version == 1 {
         return Ok(());
@@ -50,7 +52,8 @@ pub(crate) fn put_header<T: Sink>(
 ) -> Result<(), OutFault>
     requires { IsTrue out.old.live }
     ensures { Puts OutFault.WriteFault (header_text header.now)
-        (onto out.old (T.held sink.old) (T.faults sink.old)) (onto out.new (T.held sink.new) (T.faults sink.new)) result }
+        (onto out.old (T.held sink.old) (T.faults sink.old)) (onto out.new (T.held sink.new) (T.faults sink.new))
+        result }
 {
     out.put_bytes(b"CXR1", sink)?;
     put_version(out, header.version, header.split, sink)?;
@@ -69,7 +72,8 @@ pub(crate) fn put_page<T: Sink>(
 ) -> Result<(), OutFault>
     requires { IsTrue out.old.live }
     ensures { Puts OutFault.WriteFault (varint number ++ bytes.now)
-        (onto out.old (T.held sink.old) (T.faults sink.old)) (onto out.new (T.held sink.new) (T.faults sink.new)) result }
+        (onto out.old (T.held sink.old) (T.faults sink.old)) (onto out.new (T.held sink.new) (T.faults sink.new))
+        result }
 {
     out.put_varint(number as u64, sink)?;
     out.put_bytes(bytes, sink)
@@ -84,7 +88,8 @@ pub(crate) fn put_start<T: Sink>(
 ) -> Result<(), OutFault>
     requires { IsTrue out.old.live }
     ensures { Puts OutFault.WriteFault (tag_of kind ∷ varint distance)
-        (onto out.old (T.held sink.old) (T.faults sink.old)) (onto out.new (T.held sink.new) (T.faults sink.new)) result }
+        (onto out.old (T.held sink.old) (T.faults sink.old)) (onto out.new (T.held sink.new) (T.faults sink.new))
+        result }
 {
     out.put_byte(kind.tag(), sink)?;
     out.put_varint(distance, sink)
@@ -99,7 +104,8 @@ pub(crate) fn put_dma<T: Sink>(
 ) -> Result<(), OutFault>
     requires { IsTrue out.old.live }
     ensures { Puts OutFault.WriteFault (payload (dma_event bytes.now place))
-        (onto out.old (T.held sink.old) (T.faults sink.old)) (onto out.new (T.held sink.new) (T.faults sink.new)) result }
+        (onto out.old (T.held sink.old) (T.faults sink.old)) (onto out.new (T.held sink.new) (T.faults sink.new))
+        result }
 {
     out.put_word(place, sink)?;
     out.put_varint(bytes.len() as u64, sink)?;
@@ -110,7 +116,8 @@ pub(crate) fn put_dma<T: Sink>(
 pub(crate) fn put_what<T: Sink>(out: &mut Out, what: &What, sink: &mut T) -> Result<(), OutFault>
     requires { IsTrue out.old.live }
     ensures { Puts OutFault.WriteFault (payload_of what.now)
-        (onto out.old (T.held sink.old) (T.faults sink.old)) (onto out.new (T.held sink.new) (T.faults sink.new)) result }
+        (onto out.old (T.held sink.old) (T.faults sink.old)) (onto out.new (T.held sink.new) (T.faults sink.new))
+        result }
 {
     match what {
         What::Lines(lines) => out.put_word(lines.0, sink),

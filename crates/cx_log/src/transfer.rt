@@ -61,7 +61,8 @@ impl TransferBytes {
         requires live { IsTrue bytes.old.live }
         requires size { size ≤ PAGE_SIZE }
         ensures reads { IsSome (S.left source.old) → Reads log_met (always self.new) (bytes_at size)
-            (over bytes.old (S.left source.old) (S.given source.old)) (over bytes.new (S.left source.new) (S.given source.new)) result }
+            (over bytes.old (S.left source.old) (S.given source.old))
+            (over bytes.new (S.left source.new) (S.given source.new)) result }
         ensures goes { Goes LogFault.ReadFault bytes.old bytes.new (S.faults source.old) (S.faults source.new) result }
         ensures at { OnOk result (bytes.new.at ≡ bytes.old.at + size) }
         ensures count { OnOk result (length self.new ≡ size) }
@@ -82,7 +83,8 @@ fn read_front<S: Source>(
     requires live { IsTrue bytes.old.live }
     requires size { size ≤ length buffer.old }
     ensures reads { IsSome (S.left source.old) → Reads log_met (always (take size buffer.new)) (bytes_at size)
-        (over bytes.old (S.left source.old) (S.given source.old)) (over bytes.new (S.left source.new) (S.given source.new)) result }
+        (over bytes.old (S.left source.old) (S.given source.old))
+        (over bytes.new (S.left source.new) (S.given source.new)) result }
     ensures goes { Goes LogFault.ReadFault bytes.old bytes.new (S.faults source.old) (S.faults source.new) result }
     ensures at { OnOk result (bytes.new.at ≡ bytes.old.at + size) }
 {

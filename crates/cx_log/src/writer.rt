@@ -20,9 +20,9 @@ use cx_map::PAGE_SIZE;
 use std::alloc::Global;
 use std::marker::Model;
 
-/// A writer of one recording: its header, its pages, its records, and End. After a refusal it has ended, and the sink holds a
-/// front of what was put. `WriteFault` comes only where the sink's count of faults rose, and `NoMemory` where memory is
-/// refused, to `start` or by the sink.
+/// A writer of one recording: its header, its pages, its records, and End. After a refusal it has ended, and the sink
+/// holds a front of what was put. `WriteFault` comes only where the sink's count of faults rose, and `NoMemory` where
+/// memory is refused, to `start` or by the sink.
 #[derive(Drop)]
 pub struct LogWriter {
     out: Out,
@@ -37,7 +37,14 @@ impl Model for LogWriter {
 
     ghost Value = { Writing };
 
-    ghost view = { λ w. record { output = w.out; header = w.header; left = w.left; least = w.least; behind = w.behind } };
+    ghost view = { λ w. record {
+      output = w.out;
+      header = w.header;
+      left = w.left;
+      least = w.least;
+      behind =
+          w.behind;
+    } };
 
     ghost invariant = { λ w. IsAmong w.header w.least w.behind };
 }
@@ -85,7 +92,8 @@ impl LogWriter {
         requires below { number < self.old.header.pages }
         requires some { is_zero bytes.now ≡ false }
         ensures puts { Puts OutFault.WriteFault (varint number ++ bytes.now)
-            (onto self.old.output (T.held sink.old) (T.faults sink.old)) (onto self.new.output (T.held sink.new) (T.faults sink.new)) result }
+            (onto self.old.output (T.held sink.old) (T.faults sink.old)) (onto self.new.output (T.held sink.new)
+            (T.faults sink.new)) result }
         ensures turned { OnOk result ((self.new.least ≡ number + 1) × (self.new.left + 1 ≡ self.old.left)) }
         ensures same { (self.new.header ≡ self.old.header) × (self.new.behind ≡ self.old.behind) }
     {
@@ -105,11 +113,25 @@ impl LogWriter {
     ) -> Result<(), OutFault>
         requires live { IsTrue self.old.output.live }
         requires none_owed { self.old.left ≡ 0 }
-        requires rules { MayFollow self.old.header.pages self.old.behind (record { step = step; event = dma_event bytes.now place }) }
-        ensures puts { Puts OutFault.WriteFault (record_text self.old.behind.step (record { step = step; event = dma_event bytes.now place }))
-            (onto self.old.output (T.held sink.old) (T.faults sink.old)) (onto self.new.output (T.held sink.new) (T.faults sink.new)) result }
-        ensures behind { OnOk result (self.new.behind ≡ behind_it self.old.behind (record { step = step; event = dma_event bytes.now place })) }
-        ensures same { (self.new.header ≡ self.old.header) × (self.new.left ≡ self.old.left) × (self.new.least ≡ self.old.least) }
+        requires rules { MayFollow self.old.header.pages self.old.behind (record {
+          step = step;
+          event =
+              dma_event bytes.now place;
+        }) }
+        ensures puts { Puts OutFault.WriteFault (record_text self.old.behind.step (record {
+          step = step;
+          event =
+              dma_event bytes.now place;
+        }))
+            (onto self.old.output (T.held sink.old) (T.faults sink.old)) (onto self.new.output (T.held sink.new)
+            (T.faults sink.new)) result }
+        ensures behind { OnOk result (self.new.behind ≡ behind_it self.old.behind (record {
+          step = step;
+          event =
+              dma_event bytes.now place;
+        })) }
+        ensures same { (self.new.header ≡ self.old.header) × (self.new.left ≡ self.old.left)
+            × (self.new.least ≡ self.old.least) }
     {
         let distance = step - self.behind.step;
         put_start(&mut self.out, Kind::Dma, distance, sink)?;
@@ -128,9 +150,11 @@ impl LogWriter {
         requires more { is_end item.now.what ≡ false }
         requires rules { MayStand self.old.header.pages self.old.behind (entry_of [] item.now) }
         ensures puts { Puts OutFault.WriteFault (entry_text self.old.behind.step (entry_of [] item.now))
-            (onto self.old.output (T.held sink.old) (T.faults sink.old)) (onto self.new.output (T.held sink.new) (T.faults sink.new)) result }
+            (onto self.old.output (T.held sink.old) (T.faults sink.old)) (onto self.new.output (T.held sink.new)
+            (T.faults sink.new)) result }
         ensures behind { OnOk result (self.new.behind ≡ behind_entry self.old.behind (entry_of [] item.now)) }
-        ensures same { (self.new.header ≡ self.old.header) × (self.new.left ≡ self.old.left) × (self.new.least ≡ self.old.least) }
+        ensures same { (self.new.header ≡ self.old.header) × (self.new.left ≡ self.old.left)
+            × (self.new.least ≡ self.old.least) }
     {
         let distance = item.step - self.behind.step;
         put_start(&mut self.out, item.what.kind(), distance, sink)?;

@@ -7,8 +7,8 @@ use Rattle.cx_csr.specs.declared.state.State.{State}
 use Rattle.cx_map.specs.Map.{size_of_pages}
 use Rattle.cx_machine.specs.Transfers.{AreTransfers, Transfer}
 
--- The transfers that come before the step, the interrupt lines from this step on, where they change, and the value that the
--- step asks for.
+-- The transfers that come before the step, the interrupt lines from this step on, where they change, and the value that
+-- the step asks for.
 pub record Due : Type 0 where
   pub transfers : List Transfer
   pub lines : Option Lines

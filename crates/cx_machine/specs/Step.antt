@@ -15,14 +15,19 @@ abbrev pub Step : Type 0 → Type 0
 Step Rec = MachineState → Due → Option (Stepped Rec)
 
 -- On another memory the step gave the same record and the same next state, and wrote the same bytes.
-pub record IsSameStep {Rec : Type 0} (p : MachineState) (then : Stepped Rec) (q : MachineState) (outcome : Option (Stepped Rec)) : Type 0 where
+pub record IsSameStep {Rec : Type 0} (p : MachineState) (then : Stepped Rec) (q : MachineState)
+    (outcome : Option (Stepped Rec)) : Type 0 where
   pub memory : List ℕ
-  pub given : outcome ≡ Some (record { machine = record { state = then.machine.state; memory = memory }; rec = then.rec })
+  pub given : outcome ≡ Some (record {
+    machine = record { state = then.machine.state; memory = memory };
+    rec =
+        then.rec;
+  })
   pub size : length memory ≡ length then.machine.memory
   pub writes : SameWrites p.memory then.machine.memory q.memory memory
 
--- A step reads nothing but what its record names: reads gives the indices of these bytes of RAM. On another memory of the
--- same size that agrees there it is the same step.
+-- A step reads nothing but what its record names: reads gives the indices of these bytes of RAM. On another memory of
+-- the same size that agrees there it is the same step.
 abbrev pub ReadsItsRecord : {Rec : Type 0} → Step Rec → (Rec → List ℕ) → Type 0
 ReadsItsRecord {Rec} step reads =
     (p q : MachineState) (due : Due) (then : Stepped Rec) → step p due ≡ Some then

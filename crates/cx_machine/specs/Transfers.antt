@@ -1,5 +1,6 @@
 -- What devices write to RAM before a step.
-use Rattle.std.specs.Prelude.{ℕ, ◌+◌, ◌≤◌, List, [], ◌∷◌, length, All, Bool, ◌&&◌, nat_lt, if◌then◌else◌, Option, None, Some}
+use Rattle.std.specs.Prelude.{ℕ, ◌+◌, ◌≤◌, List, [], ◌∷◌, length, All, Bool, ◌&&◌, nat_lt, if◌then◌else◌, Option, None}
+use Rattle.std.specs.Prelude.{Some}
 use Rattle.cx_csr.specs.declared.state.State.{State}
 use Rattle.cx_map.specs.Bytes.{AreBytes}
 use Rattle.cx_map.specs.Map.{IsInRam, ram_index}

@@ -10,10 +10,15 @@ AreBytes-all xs bytes = All-from_get_or (λ b. b < 256) xs 0 (λ i here. bytes i
 
 pub all-AreBytes : (xs : List ℕ) → All (λ b. b < 256) xs → AreBytes xs
 all-AreBytes xs all i =
-    elim (cases_lt i (length xs)) [ inl here ↦ all i 0 here | inr past ↦ let none = get_or_past xs i 0 past in omega arith ]
+    elim (cases_lt i (length xs)) [
+      | inl here ↦ all i 0 here
+      | inr past ↦ let none = get_or_past xs i 0 past in
+          omega arith
+    ]
 
 pub AreBytes-append : (xs ys : List ℕ) → AreBytes xs → AreBytes ys → AreBytes (xs ++ ys)
-AreBytes-append xs ys left right = all-AreBytes (xs ++ ys) (All-append (λ b. b < 256) xs ys (AreBytes-all xs left) (AreBytes-all ys right))
+AreBytes-append xs ys left right =
+    all-AreBytes (xs ++ ys) (All-append (λ b. b < 256) xs ys (AreBytes-all xs left) (AreBytes-all ys right))
 
 pub AreBytes-take : (n : ℕ) (xs : List ℕ) → AreBytes xs → AreBytes (take n xs)
 AreBytes-take n xs bytes = all-AreBytes (take n xs) (All-take (λ b. b < 256) n xs (AreBytes-all xs bytes))

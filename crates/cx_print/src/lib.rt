@@ -1,11 +1,25 @@
 //! What Crosscut prints, as bytes.
 //!
-//! `Text` is a short text in a buffer of its own, for a line that has to be made without taking memory. Contracts see
-//! it as the list of its bytes.
+//! `ShortText` is a text in a buffer of its own, for a line that has to be made without taking memory. Contracts see it
+//! as the list of its bytes. `step_line` and `state_line` put the lines of steps and states, and `ins_text` shows an
+//! instruction.
 #![tactic(auto)]
 
+mod decimal;
+mod hex;
+mod ins;
+mod laws;
+mod line;
+mod names;
+mod operand_text;
+mod operands;
+mod step;
 #[cfg(test)]
 mod tests;
 mod text;
 
-pub use text::{TEXT_CAPACITY, Text};
+pub use ins::ins_text;
+pub use laws::{a_state_line_is_short, a_step_line_is_short};
+pub use line::LINE_CAPACITY;
+pub use step::{state_line, step_line};
+pub use text::{ShortText, TEXT_CAPACITY, Text};

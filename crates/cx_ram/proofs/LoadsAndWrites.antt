@@ -1,5 +1,6 @@
 -- The laws of loads and of writes on a flat list of bytes.
-use Rattle.std.proofs.Common.{◌≡◌, ◌⊎◌, ℕ, zero, suc, ◌+◌, ◌*◌, ◌/◌, ◌%◌, ◌^◌, ◌<◌, ◌≤◌, List, length, refl, sym, inl, inr, arith, add-zero}
+use Rattle.std.proofs.Common.{◌≡◌, ◌⊎◌, ℕ, zero, suc, ◌+◌, ◌*◌, ◌/◌, ◌%◌, ◌^◌, ◌<◌, ◌≤◌, List, length, refl, sym, inl}
+use Rattle.std.proofs.Common.{inr, arith, add-zero}
 use Rattle.std.specs.Prelude.{slice_index}
 use Rattle.std.proofs.lemmas.Grind.{common_steps}
 use Rattle.std.proofs.Math.Nat.{mod-one}
@@ -8,20 +9,24 @@ use Rattle.cx_ram.specs.LittleEndian.{loaded, low_bytes, written, stored}
 use Rattle.cx_ram.proofs.Writes.{length-low_bytes}
 
 -- A load depends on its own bytes alone.
-pub loaded-agree : (m n : List ℕ) (i len : ℕ) → ((k : ℕ) → k < len → slice_index m (i + k) ≡ slice_index n (i + k)) → loaded m i len ≡ loaded n i len
+pub loaded-agree : (m n : List ℕ) (i len : ℕ) → ((k : ℕ) → k < len → slice_index m (i + k) ≡ slice_index n (i + k))
+    → loaded m i len ≡ loaded n i len
 unfolding loaded
 loaded-agree m n i zero agree = refl
 loaded-agree m n i (suc len) agree =
     let first : slice_index m i ≡ slice_index n i = rw add-zero at (agree 0 (omega arith)) in
     let rest : loaded m (i + 1) len ≡ loaded n (i + 1) len =
-    loaded-agree m n (i + 1) len (λ k below. let e : (i + 1) + k ≡ i + suc k = omega arith in rw e (agree (suc k) (omega arith))) in
+    loaded-agree m n (i + 1) len (λ k below. let e : (i + 1) + k ≡ i + suc k = omega arith in
+    rw e (agree (suc k) (omega arith))) in
     omega arith
 
-pub length-written : (m : List ℕ) (i : ℕ) (bytes : List ℕ) → i + length bytes ≤ length m → length (written m i bytes) ≡ length m
+pub length-written : (m : List ℕ) (i : ℕ) (bytes : List ℕ) → i + length bytes ≤ length m
+    → length (written m i bytes) ≡ length m
 unfolding written
 length-written m i bytes within = grind (arith, common_steps)
 
-pub slice_index-written_outside : (m : List ℕ) (i : ℕ) (bytes : List ℕ) (k : ℕ) → i + length bytes ≤ length m → (k < i) ⊎ (i + length bytes ≤ k)
+pub slice_index-written_outside : (m : List ℕ) (i : ℕ) (bytes : List ℕ) (k : ℕ) → i + length bytes ≤ length m
+    → (k < i) ⊎ (i + length bytes ≤ k)
     → slice_index (written m i bytes) k ≡ slice_index m k
 unfolding written
 slice_index-written_outside m i bytes k within outside = grind (arith, common_steps)
@@ -36,22 +41,26 @@ pub loaded-written_outside : (m : List ℕ) (i : ℕ) (bytes : List ℕ) (at siz
     → (at + size ≤ i) ⊎ (i + length bytes ≤ at) → loaded (written m i bytes) at size ≡ loaded m at size
 loaded-written_outside m i bytes at size within outside =
     loaded-agree (written m i bytes) m at size
-    (λ k here. let beside : (at + k < i) ⊎ (i + length bytes ≤ at + k) = elim outside [ inl below ↦ inl (omega arith) | inr above ↦ inr (omega arith) ] in
+    (λ k here. let beside : (at + k < i) ⊎ (i + length bytes ≤ at + k) =
+    elim outside [ inl below ↦ inl (omega arith) | inr above ↦ inr (omega arith) ] in
     slice_index-written_outside m i bytes (at + k) within beside)
 
 -- Where the low bytes of a value stand in a list, a load of them gives the value's low bits.
-loaded-low_bytes : (m : List ℕ) (i len value : ℕ) → ((k : ℕ) → k < len → slice_index m (i + k) ≡ slice_index (low_bytes len value) k)
+loaded-low_bytes : (m : List ℕ) (i len value : ℕ)
+    → ((k : ℕ) → k < len → slice_index m (i + k) ≡ slice_index (low_bytes len value) k)
     → loaded m i len ≡ value % 2 ^ (8 * len)
 unfolding loaded low_bytes
 loaded-low_bytes m i zero value agree = sym (mod-one value)
 loaded-low_bytes m i (suc len) value agree =
     let first : slice_index m i ≡ value % 256 = rw add-zero at (agree 0 (omega arith)) in
     let rest : loaded m (i + 1) len ≡ (value / 256) % 2 ^ (8 * len) =
-    loaded-low_bytes m (i + 1) len (value / 256) (λ k below. let e : (i + 1) + k ≡ i + suc k = omega arith in rw e (agree (suc k) (omega arith))) in
+    loaded-low_bytes m (i + 1) len (value / 256) (λ k below. let e : (i + 1) + k ≡ i + suc k = omega arith in
+    rw e (agree (suc k) (omega arith))) in
     let width : 8 * suc len ≡ 8 * len + 8 = omega arith in
     rw (width, mod-pow-add value (8 * len) 8, first, rest) (omega arith)
 
-pub loaded-stored : (m : List ℕ) (i len value : ℕ) → i + len ≤ length m → loaded (stored m i len value) i len ≡ value % 2 ^ (8 * len)
+pub loaded-stored : (m : List ℕ) (i len value : ℕ) → i + len ≤ length m → loaded (stored m i len value) i len
+    ≡ value % 2 ^ (8 * len)
 unfolding stored
 loaded-stored m i len value within =
     let size : length (low_bytes len value) ≡ len = length-low_bytes len value in
@@ -61,33 +70,40 @@ loaded-stored m i len value within =
 pub length-stored : (m : List ℕ) (i len value : ℕ) → i + len ≤ length m → length (stored m i len value) ≡ length m
 unfolding stored
 length-stored m i len value within =
-    let size : length (low_bytes len value) ≡ len = length-low_bytes len value in length-written m i (low_bytes len value) (omega arith)
+    let size : length (low_bytes len value) ≡ len = length-low_bytes len value in
+    length-written m i (low_bytes len value) (omega arith)
 
 pub slice_index-stored : (m : List ℕ) (i len value k : ℕ) → i + len ≤ length m → k < len
     → slice_index (stored m i len value) (i + k) ≡ slice_index (low_bytes len value) k
 unfolding stored
 slice_index-stored m i len value k within here =
-    slice_index-written m i (low_bytes len value) k (rw (length-low_bytes len value) within) (rw (length-low_bytes len value) here)
+    slice_index-written m i (low_bytes len value) k (rw (length-low_bytes len value) within)
+    (rw (length-low_bytes len value) here)
 
 pub slice_index-stored_outside : (m : List ℕ) (i len value k : ℕ) → i + len ≤ length m → (k < i) ⊎ (i + len ≤ k)
     → slice_index (stored m i len value) k ≡ slice_index m k
 unfolding stored
 slice_index-stored_outside m i len value k within outside =
-    slice_index-written_outside m i (low_bytes len value) k (rw (length-low_bytes len value) within) (rw (length-low_bytes len value) outside)
+    slice_index-written_outside m i (low_bytes len value) k (rw (length-low_bytes len value) within)
+    (rw (length-low_bytes len value) outside)
 
-pub loaded-stored_outside : (m : List ℕ) (i len value at size : ℕ) → i + len ≤ length m → (at + size ≤ i) ⊎ (i + len ≤ at)
+pub loaded-stored_outside : (m : List ℕ) (i len value at size : ℕ) → i + len ≤ length m → (at + size ≤ i)
+    ⊎ (i + len ≤ at)
     → loaded (stored m i len value) at size ≡ loaded m at size
 unfolding stored
 loaded-stored_outside m i len value at size within outside =
-    loaded-written_outside m i (low_bytes len value) at size (rw (length-low_bytes len value) within) (rw (length-low_bytes len value) outside)
+    loaded-written_outside m i (low_bytes len value) at size (rw (length-low_bytes len value) within)
+    (rw (length-low_bytes len value) outside)
 
 -- A load of bytes has no bits above theirs.
-pub loaded-fits : (m : List ℕ) (i len : ℕ) → ((k : ℕ) → k < len → slice_index m (i + k) < 256) → loaded m i len < 2 ^ (8 * len)
+pub loaded-fits : (m : List ℕ) (i len : ℕ) → ((k : ℕ) → k < len → slice_index m (i + k) < 256)
+    → loaded m i len < 2 ^ (8 * len)
 unfolding loaded
 loaded-fits m i zero fits = omega arith
 loaded-fits m i (suc len) fits =
     let first : slice_index m i < 256 = rw add-zero at (fits 0 (omega arith)) in
     let rest : loaded m (i + 1) len < 2 ^ (8 * len) =
-    loaded-fits m (i + 1) len (λ k below. let e : (i + 1) + k ≡ i + suc k = omega arith in rw e (fits (suc k) (omega arith))) in
+    loaded-fits m (i + 1) len (λ k below. let e : (i + 1) + k ≡ i + suc k = omega arith in
+    rw e (fits (suc k) (omega arith))) in
     let width : 8 * suc len ≡ 8 * len + 8 = omega arith in
     rw (width, pow-add 2 (8 * len) 8) (omega arith)

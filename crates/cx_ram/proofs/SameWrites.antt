@@ -1,8 +1,11 @@
 -- The same bytes written to two memories of one length.
-use Rattle.std.proofs.Common.{◌≡◌, ◌⊎◌, inl, inr, ℕ, ◌+◌, ◌-◌, ◌<◌, ◌≤◌, Bool, true, false, nat_lt, nat_le, min, List, ◌++◌, length, take, drop, get_or, refl, sym, ap, subst, ◌∙◌, arith, length-append, length-drop}
+use Rattle.std.proofs.Common.{◌≡◌, ◌⊎◌, inl, inr, ℕ, ◌+◌, ◌-◌, ◌<◌, ◌≤◌, Bool, true, false, nat_lt, nat_le, min, List}
+use Rattle.std.proofs.Common.{◌++◌, length, take, drop, get_or, refl, sym, ap, subst, ◌∙◌, arith, length-append}
+use Rattle.std.proofs.Common.{length-drop}
 use borrow.Author.Tests.{leb-false, leb-true, ltb-false, ltb-true}
 use Rattle.std.specs.Prelude.{slice_index}
-use Rattle.std.proofs.lemmas.List.{get_or-append-add, get_or-drop, get_or-take, get_or_append_left, get_or_past, length-take}
+use Rattle.std.proofs.lemmas.List.{get_or-append-add, get_or-drop, get_or-take, get_or_append_left, get_or_past}
+use Rattle.std.proofs.lemmas.List.{length-take}
 use Rattle.cx_ram.specs.LittleEndian.{written}
 use Rattle.cx_ram.specs.Agreement.{AgreeOn, SameWrites}
 
@@ -15,13 +18,16 @@ module _ (m : List ℕ) (i : ℕ) (bytes : List ℕ) (k : ℕ) where
       let inside : k < length (take i m) = omega (arith, length-take i m) in
       get_or_append_left (take i m) (bytes ++ drop (i + length bytes) m) 0 k inside ∙ get_or-take i m k 0 (omega arith)
 
-  inner : (j : ℕ) → k ≡ min i (length m) + j → j < length bytes → slice_index (written m i bytes) k ≡ slice_index bytes j
+  inner : (j : ℕ) → k ≡ min i (length m) + j → j < length bytes → slice_index (written m i bytes) k ≡ slice_index bytes
+      j
   unfolding written
   inner j e below =
       let at : k ≡ length (take i m) + j = omega (arith, length-take i m) in
-      rw at (get_or-append-add (take i m) (bytes ++ drop (i + length bytes) m) j 0 ∙ get_or_append_left bytes (drop (i + length bytes) m) 0 j below)
+      rw at (get_or-append-add (take i m) (bytes ++ drop (i + length bytes) m) j 0
+      ∙ get_or_append_left bytes (drop (i + length bytes) m) 0 j below)
 
-  back : (j : ℕ) → k ≡ min i (length m) + (length bytes + j) → slice_index (written m i bytes) k ≡ slice_index m (i + length bytes + j)
+  back : (j : ℕ) → k ≡ min i (length m) + (length bytes + j) → slice_index (written m i bytes) k ≡ slice_index m
+      (i + length bytes + j)
   unfolding written
   back j e =
       let at : k ≡ length (take i m) + (length bytes + j) = omega (arith, length-take i m) in
@@ -30,13 +36,15 @@ module _ (m : List ℕ) (i : ℕ) (bytes : List ℕ) (k : ℕ) where
       ∙ (get_or-append-add bytes (drop (i + length bytes) m) j 0 ∙ get_or-drop (i + length bytes) m j 0))
 
 -- what holds of each byte of the memory and of each that is written
-module _ (m : List ℕ) (i : ℕ) (bytes : List ℕ) (P : ℕ → Type 0) (old : (k : ℕ) → P (slice_index m k)) (new : (k : ℕ) → P (slice_index bytes k)) (k : ℕ) where
+module _ (m : List ℕ) (i : ℕ) (bytes : List ℕ) (P : ℕ → Type 0) (old : (k : ℕ) → P (slice_index m k)) (new : (k : ℕ)
+    → P (slice_index bytes k)) (k : ℕ) where
   byte_behind : min i (length m) + length bytes ≤ k → P (slice_index (written m i bytes) k)
   byte_behind past =
       let j : ℕ = k - (min i (length m) + length bytes) in
       subst P (sym (back m i bytes k j (omega arith))) (old (i + length bytes + j))
 
-  byte_within : (b : Bool) → nat_lt k (min i (length m) + length bytes) ≡ b → min i (length m) ≤ k → P (slice_index (written m i bytes) k)
+  byte_within : (b : Bool) → nat_lt k (min i (length m) + length bytes) ≡ b → min i (length m) ≤ k
+      → P (slice_index (written m i bytes) k)
   byte_within true e past =
       let below : k < min i (length m) + length bytes = ltb-true _ _ e in
       subst P (sym (inner m i bytes k (k - min i (length m)) (omega arith) (omega arith))) (new (k - min i (length m)))
@@ -49,7 +57,8 @@ module _ (m : List ℕ) (i : ℕ) (bytes : List ℕ) (P : ℕ → Type 0) (old :
   pub written_byte : P (slice_index (written m i bytes) k)
   written_byte = byte_by (nat_lt k (min i (length m))) refl
 
-pub length_of_written : (p q : List ℕ) (i : ℕ) (bytes : List ℕ) → length q ≡ length p → length (written q i bytes) ≡ length (written p i bytes)
+pub length_of_written : (p q : List ℕ) (i : ℕ) (bytes : List ℕ) → length q ≡ length p
+    → length (written q i bytes) ≡ length (written p i bytes)
 unfolding written
 length_of_written p q i bytes size =
     omega (
@@ -94,10 +103,12 @@ module _ (p q : List ℕ) (i : ℕ) (bytes : List ℕ) (size : length q ≡ leng
   within false e past = behind (nat_le i (length p)) refl (ltb-false _ _ e)
 
   before : (b : Bool) → nat_lt k (min i (length p)) ≡ b → Same
-  before true e = let below : k < min i (length p) = ltb-true _ _ e in inr (front p i bytes k below, front q i bytes k (omega arith))
+  before true e = let below : k < min i (length p) = ltb-true _ _ e in
+      inr (front p i bytes k below, front q i bytes k (omega arith))
   before false e = within (nat_lt k (min i (length p) + length bytes)) refl (ltb-false _ _ e)
 
-pub same_written : (p q : List ℕ) (i : ℕ) (bytes : List ℕ) → length q ≡ length p → SameWrites p (written p i bytes) q (written q i bytes)
+pub same_written : (p q : List ℕ) (i : ℕ) (bytes : List ℕ) → length q ≡ length p
+    → SameWrites p (written p i bytes) q (written q i bytes)
 same_written p q i bytes size k = before p q i bytes size k (nat_lt k (min i (length p))) refl
 
 -- ---- one write after another

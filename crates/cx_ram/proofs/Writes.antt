@@ -26,18 +26,22 @@ low_bytes-three : (value : ℕ) → low_bytes 3 value ≡ take 3 (to_le_bytes w3
 unfolding low_bytes
 low_bytes-three value = simp div-div-eq-div-mul
 
-pub stored_one : (memory bytes : List ℕ) (at value : ℕ) → bytes ≡ to_le_bytes w32 value → written memory at (take 1 bytes) ≡ stored memory at 1 value
+pub stored_one : (memory bytes : List ℕ) (at value : ℕ) → bytes ≡ to_le_bytes w32 value
+    → written memory at (take 1 bytes) ≡ stored memory at 1 value
 unfolding stored low_bytes
 stored_one memory bytes at value e = rw e refl
 
-pub stored_two : (memory bytes : List ℕ) (at value : ℕ) → bytes ≡ to_le_bytes w32 value → written memory at (take 2 bytes) ≡ stored memory at 2 value
+pub stored_two : (memory bytes : List ℕ) (at value : ℕ) → bytes ≡ to_le_bytes w32 value
+    → written memory at (take 2 bytes) ≡ stored memory at 2 value
 unfolding stored low_bytes
 stored_two memory bytes at value e = rw e refl
 
-pub stored_three : (memory bytes : List ℕ) (at value : ℕ) → bytes ≡ to_le_bytes w32 value → written memory at (take 3 bytes) ≡ stored memory at 3 value
+pub stored_three : (memory bytes : List ℕ) (at value : ℕ) → bytes ≡ to_le_bytes w32 value
+    → written memory at (take 3 bytes) ≡ stored memory at 3 value
 unfolding stored
 stored_three memory bytes at value e = rw (e, ← low_bytes-three value) refl
 
-pub stored_four : (memory bytes : List ℕ) (at value : ℕ) → bytes ≡ to_le_bytes w32 value → written memory at bytes ≡ stored memory at 4 value
+pub stored_four : (memory bytes : List ℕ) (at value : ℕ) → bytes ≡ to_le_bytes w32 value
+    → written memory at bytes ≡ stored memory at 4 value
 unfolding stored
 stored_four memory bytes at value e = rw (e, ← low_bytes-four value) refl

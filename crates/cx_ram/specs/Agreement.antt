@@ -7,4 +7,5 @@ AgreeOn indices p q = All (λ i. slice_index p i ≡ slice_index q i) indices
 
 -- Each byte has the same new value in both, or is unchanged in both.
 abbrev pub SameWrites : List ℕ → List ℕ → List ℕ → List ℕ → Type 0
-SameWrites p p' q q' = (i : ℕ) → (slice_index p' i ≡ slice_index q' i) ⊎ ((slice_index p' i ≡ slice_index p i) × (slice_index q' i ≡ slice_index q i))
+SameWrites p p' q q' = (i : ℕ) → (slice_index p' i ≡ slice_index q' i) ⊎ ((slice_index p' i ≡ slice_index p i)
+    × (slice_index q' i ≡ slice_index q i))

@@ -1,5 +1,5 @@
--- Numbers on a flat list of bytes. The byte at the lowest place is the least significant one: the choice that the Unprivileged
--- specification leaves to the execution environment (20191213, section 2.6).
+-- Numbers on a flat list of bytes. The byte at the lowest place is the least significant one: the choice that the
+-- Unprivileged specification leaves to the execution environment (20191213, section 2.6).
 use Rattle.std.specs.Prelude.{ℕ, zero, suc, ◌+◌, ◌*◌, ◌/◌, ◌%◌, List, [], ◌∷◌, ◌++◌, length, take, drop, slice_index}
 
 -- The value of the len bytes that begin at index i.

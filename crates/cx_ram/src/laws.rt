@@ -16,9 +16,11 @@ pub fn load_reads_its_bytes()
 pub fn write_changes_its_bytes()
     ensures inside { (m : List ℕ) (i : ℕ) (bytes : List ℕ) (k : ℕ) → i + length bytes ≤ length m → k < length bytes
         → slice_index (written m i bytes) (i + k) ≡ slice_index bytes k }
-    ensures outside { (m : List ℕ) (i : ℕ) (bytes : List ℕ) (k : ℕ) → i + length bytes ≤ length m → (k < i) ⊎ (i + length bytes ≤ k)
+    ensures outside { (m : List ℕ) (i : ℕ) (bytes : List ℕ) (k : ℕ) → i + length bytes ≤ length m
+        → (k < i) ⊎ (i + length bytes ≤ k)
         → slice_index (written m i bytes) k ≡ slice_index m k }
-    ensures size { (m : List ℕ) (i : ℕ) (bytes : List ℕ) → i + length bytes ≤ length m → length (written m i bytes) ≡ length m }
+    ensures size { (m : List ℕ) (i : ℕ) (bytes : List ℕ) → i + length bytes ≤ length m
+        → length (written m i bytes) ≡ length m }
 {}
 
 /// A store changes its own bytes alone, to the low bytes of its value, and keeps the length.
@@ -40,33 +42,38 @@ pub fn load_after_store()
 
 /// A load beside a write gives what it gave before.
 pub fn load_after_write()
-    ensures { (m : List ℕ) (i : ℕ) (bytes : List ℕ) (at size : ℕ) → i + length bytes ≤ length m → (at + size ≤ i) ⊎ (i + length bytes ≤ at)
+    ensures { (m : List ℕ) (i : ℕ) (bytes : List ℕ) (at size : ℕ) → i + length bytes ≤ length m → (at + size ≤ i)
+        ⊎ (i + length bytes ≤ at)
         → loaded (written m i bytes) at size ≡ loaded m at size }
 {}
 
 /// A load of bytes has no bit above theirs.
 pub fn load_fits()
-    ensures { (m : List ℕ) (i len : ℕ) → ((k : ℕ) → k < len → slice_index m (i + k) < 256) → loaded m i len < 2 ^ (8 * len) }
+    ensures { (m : List ℕ) (i len : ℕ) → ((k : ℕ) → k < len → slice_index m (i + k) < 256)
+        → loaded m i len < 2 ^ (8 * len) }
 {}
 
 /// A page that was written has the bytes that were written, and the others have theirs.
 pub fn page_after_write()
     ensures same { (m : List ℕ) (page : ℕ) (bytes : List ℕ) → IsPage m page → length bytes ≡ PAGE_SIZE
         → page_of (written m (page * PAGE_SIZE) bytes) page ≡ bytes }
-    ensures others { (m : List ℕ) (page : ℕ) (bytes : List ℕ) (other : ℕ) → IsPage m page → length bytes ≡ PAGE_SIZE → other ≢ page
+    ensures others { (m : List ℕ) (page : ℕ) (bytes : List ℕ) (other : ℕ) → IsPage m page → length bytes ≡ PAGE_SIZE
+        → other ≢ page
         → page_of (written m (page * PAGE_SIZE) bytes) other ≡ page_of m other }
 {}
 
 /// The bytes of a page are those of the memory from its first place on.
 pub fn page_is_its_bytes()
-    ensures { (m : List ℕ) (page k : ℕ) → k < PAGE_SIZE → slice_index (page_of m page) k ≡ slice_index m (page * PAGE_SIZE + k) }
+    ensures { (m : List ℕ) (page k : ℕ) → k < PAGE_SIZE → slice_index (page_of m page) k ≡ slice_index m
+        (page * PAGE_SIZE + k) }
 {}
 
-/// The same bytes written at one index of two memories of one length are the same writes, wherever the index is. So are no
-/// writes, and the same writes one after another. Memories that agree go on to agree behind them.
+/// The same bytes written at one index of two memories of one length are the same writes, wherever the index is. So are
+/// no writes, and the same writes one after another. Memories that agree go on to agree behind them.
 pub fn memories_are_written_alike()
     ensures none { (p q : List ℕ) → SameWrites p p q q }
-    ensures bytes { (p q : List ℕ) (i : ℕ) (bytes : List ℕ) → length q ≡ length p → SameWrites p (written p i bytes) q (written q i bytes) }
+    ensures bytes { (p q : List ℕ) (i : ℕ) (bytes : List ℕ) → length q ≡ length p
+        → SameWrites p (written p i bytes) q (written q i bytes) }
     ensures more { (p p1 p2 q q1 q2 : List ℕ) → SameWrites p p1 q q1 → SameWrites p1 p2 q1 q2 → SameWrites p p2 q q2 }
     ensures agree { (indices p p1 q q1 : List ℕ) → SameWrites p p1 q q1 → AgreeOn indices p q → AgreeOn indices p1 q1 }
 {}

@@ -142,8 +142,8 @@ impl Ram {
         write(&mut self.memory, page as usize * PAGE_SIZE, bytes);
     }
 
-    /// Makes sure that `n` pages can get a frame of their own without taking memory, and changes nothing else. Each page
-    /// has its memory already.
+    /// Makes sure that `n` pages can get a frame of their own without taking memory, and changes nothing else. Each
+    /// page has its memory already.
     pub fn reserve(&mut self, n: u32) -> Result<(), NoMemory>
         ensures room { IfOk result (λ done. n ≤ self.new.spare) }
         ensures same { self.new ≡ record self.old { spare = self.new.spare } }

@@ -13,3 +13,6 @@ pub mod Shorter
 pub mod Accepted
 pub mod WindowOfWindow
 pub mod Alone
+pub mod GoodInputs
+pub mod FirstBreak
+pub mod StepEvents

@@ -1,5 +1,6 @@
 -- A window of a window is a window.
-use Rattle.std.proofs.Common.{◌≡◌, ℕ, ◌+◌, ◌-◌, ◌<◌, ◌≤◌, List, ◌++◌, length, drop, Bool, true, Some, refl, sym, ap, subst, ◌∙◌, arith}
+use Rattle.std.proofs.Common.{◌≡◌, ℕ, ◌+◌, ◌-◌, ◌<◌, ◌≤◌, List, ◌++◌, length, drop, Bool, true, Some, refl, sym, ap}
+use Rattle.std.proofs.Common.{subst, ◌∙◌, arith}
 use Rattle.std.proofs.lemmas.List.{drop-drop}
 use Rattle.std.proofs.lemmas.Option.{same_Some}
 use Rattle.cx_ram.specs.PhysicalMemory.{page_of}
@@ -17,11 +18,14 @@ use Rattle.cx_run.proofs.Events.{events_between-inner}
 use Rattle.cx_run.proofs.Alone.{window_runs_alone}
 
 -- The inner window's memory: the pages that are read in it are read in the outer one, so they are at hand there.
-inner_memory : {Rec : Type 0} (reads : Rec → List ℕ) (m n pages : ℕ) (p q : MachineState) (records inner rest : List Rec) → m ≤ n → m ≤ length records
+inner_memory : {Rec : Type 0} (reads : Rec → List ℕ) (m n pages : ℕ) (p q : MachineState)
+    (records inner rest : List Rec) → m ≤ n → m ≤ length records
     → AgreeOnPages (is_read reads (drop m (records ++ rest))) p q → inner ≡ drop m records
-    → kept_pages (is_read reads (drop (n - m) inner)) q.memory pages ≡ kept_pages (is_read reads (drop n records)) p.memory pages
+    → kept_pages (is_read reads (drop (n - m) inner)) q.memory pages ≡ kept_pages (is_read reads (drop n records))
+    p.memory pages
 inner_memory {Rec} reads m n pages p q records inner rest from within agree is =
-    kept_pages-agree (is_read reads (drop (n - m) inner)) (is_read reads (drop n records)) q.memory p.memory pages same_test same_page
+    kept_pages-agree (is_read reads (drop (n - m) inner)) (is_read reads (drop n records)) q.memory p.memory pages
+    same_test same_page
   where
     same_records : drop (n - m) inner ≡ drop n records
     same_records = let place : m + (n - m) ≡ n = omega arith in rw (is, drop-drop (n - m) m records, place) refl
@@ -35,14 +39,21 @@ inner_memory {Rec} reads m n pages p q records inner rest from within agree is =
         is_read-longer reads k m (n - m) records rest within (rw same at some)
 
     same_page : (k : ℕ) → k < pages → is_read reads (drop n records) k ≡ true → page_of q.memory k ≡ page_of p.memory k
-    same_page k below some = page_of-agree p.memory q.memory k agree.size (λ i here. agree.bytes i (rw here (in_outer k some)))
+    same_page k below some =
+        page_of-agree p.memory q.memory k agree.size (λ i here. agree.bytes i (rw here (in_outer k some)))
 
-same_windows : {Rec : Type 0} (reads : Rec → List ℕ) (R W : Recording) (c d : ℕ) (before after there_before there_after : Run Rec) → W.version ≡ R.version → W.split ≡ R.split → W.pages ≡ R.pages → before.machine.state ≡ there_before.machine.state
-    → kept_pages (is_read reads (drop (c - W.base) after.records)) before.machine.memory R.pages ≡ kept_pages (is_read reads (drop (c - R.base) there_after.records)) there_before.machine.memory R.pages
-    → events_between c d W.events ≡ events_between c d R.events → window_from reads W c d before after ≡ window_from reads R c d there_before there_after
-same_windows reads R W c d before after there_before there_after version split pages state memory events = rw (version, split, pages, state, memory, events) refl
+same_windows : {Rec : Type 0} (reads : Rec → List ℕ) (R W : Recording) (c d : ℕ)
+    (before after there_before there_after : Run Rec) → W.version ≡ R.version → W.split ≡ R.split → W.pages ≡ R.pages
+    → before.machine.state ≡ there_before.machine.state
+    → kept_pages (is_read reads (drop (c - W.base) after.records)) before.machine.memory R.pages ≡ kept_pages
+    (is_read reads (drop (c - R.base) there_after.records)) there_before.machine.memory R.pages
+    → events_between c d W.events ≡ events_between c d R.events → window_from reads W c d before after ≡ window_from
+    reads R c d there_before there_after
+same_windows reads R W c d before after there_before there_after version split pages state memory events =
+    rw (version, split, pages, state, memory, events) refl
 
-pub window_of_window : {Rec : Type 0} (step : Step Rec) (reads : Rec → List ℕ) (R W V : Recording) (a b c d : ℕ) → IsFramed step reads → KeepsRules R
+pub window_of_window : {Rec : Type 0} (step : Step Rec) (reads : Rec → List ℕ) (R W V : Recording) (a b c d : ℕ)
+    → IsFramed step reads → KeepsRules R
     → IsWindow step reads R a b W → IsWindow step reads W c d V → IsWindow step reads R c d V
 window_of_window {Rec} step reads R W V a b c d frame rules w v = record {
   from = omega (arith, from_base, from_a, inner, to_b, to_end);
@@ -52,7 +63,8 @@ window_of_window {Rec} step reads R W V a b c d frame rules w v = record {
   up_to_a = rw place_c at at_c.in_the_whole;
   after = at_d.there;
   up_to_b = rw place_d at at_d.in_the_whole;
-  is = v.is ∙ same_windows reads R W c d v.before v.after at_c.there at_d.there (rw w.is refl) (rw w.is refl) pages state memory events;
+  is = v.is ∙ same_windows reads R W c d v.before v.after at_c.there at_d.there (rw w.is refl) (rw w.is refl) pages
+      state memory events;
 }
   where
     base : W.base ≡ a
@@ -83,10 +95,12 @@ window_of_window {Rec} step reads R W V a b c d frame rules w v = record {
     keep = is_read reads (drop (a - R.base) w.after.records)
 
     at_c : RunsAlone step keep R a W (c - a)
-    at_c = window_runs_alone step reads R W a b (c - a) frame rules w (omega (arith, from_base, from_a, inner, to_b, to_end))
+    at_c = window_runs_alone step reads R W a b (c - a) frame rules w
+        (omega (arith, from_base, from_a, inner, to_b, to_end))
 
     at_d : RunsAlone step keep R a W (d - a)
-    at_d = window_runs_alone step reads R W a b (d - a) frame rules w (omega (arith, from_base, from_a, inner, to_b, to_end))
+    at_d = window_runs_alone step reads R W a b (d - a) frame rules w
+        (omega (arith, from_base, from_a, inner, to_b, to_end))
 
     place_c : a - R.base + (c - a) ≡ c - R.base
     place_c = omega (arith, from_base, from_a, inner, to_b, to_end)
@@ -95,10 +109,12 @@ window_of_window {Rec} step reads R W V a b c d frame rules w v = record {
     place_d = omega (arith, from_base, from_a, inner, to_b, to_end)
 
     same_c : at_c.here ≡ v.before
-    same_c = same_Some at_c.here v.before (sym at_c.alone ∙ subst (λ n. run_of step W n ≡ Some v.before) (ap (λ n. c - n) base) v.up_to_a)
+    same_c = same_Some at_c.here v.before (sym at_c.alone ∙ subst (λ n. run_of step W n ≡ Some v.before)
+        (ap (λ n. c - n) base) v.up_to_a)
 
     same_d : at_d.here ≡ v.after
-    same_d = same_Some at_d.here v.after (sym at_d.alone ∙ subst (λ n. run_of step W n ≡ Some v.after) (ap (λ n. d - n) base) v.up_to_b)
+    same_d = same_Some at_d.here v.after (sym at_d.alone ∙ subst (λ n. run_of step W n ≡ Some v.after)
+        (ap (λ n. d - n) base) v.up_to_b)
 
     state : v.before.machine.state ≡ at_c.there.machine.state
     state = ap (λ (r : Run Rec). r.machine.state) (sym same_c) ∙ at_c.machine.state
@@ -107,7 +123,8 @@ window_of_window {Rec} step reads R W V a b c d frame rules w v = record {
     records = ap (λ (r : Run Rec). r.records) (sym same_d) ∙ at_d.records
 
     longer : BeginsWith step R (d - R.base) w.after
-    longer = run_of-begins step R (d - R.base) (b - R.base) w.after (omega (arith, from_base, from_a, inner, to_b, to_end)) w.up_to_b
+    longer = run_of-begins step R (d - R.base) (b - R.base) w.after
+        (omega (arith, from_base, from_a, inner, to_b, to_end)) w.up_to_b
 
     front : longer.run ≡ at_d.there
     front = same_Some longer.run at_d.there (sym longer.is ∙ rw place_d at at_d.in_the_whole)
@@ -118,16 +135,22 @@ window_of_window {Rec} step reads R W V a b c d frame rules w v = record {
     so_many : length at_d.there.records ≡ d - R.base
     so_many = rw place_d at (length-records step R (a - R.base + (d - a)) at_d.there at_d.in_the_whole)
 
-    agree : AgreeOnPages (is_read reads (drop (a - R.base) (at_d.there.records ++ longer.rest))) at_c.there.machine v.before.machine
+    agree : AgreeOnPages (is_read reads (drop (a - R.base) (at_d.there.records ++ longer.rest))) at_c.there.machine
+        v.before.machine
     agree =
-        subst (λ (r : Run Rec). AgreeOnPages (is_read reads (drop (a - R.base) (at_d.there.records ++ longer.rest))) at_c.there.machine r.machine) same_c
-        (subst (λ (rs : List Rec). AgreeOnPages (is_read reads (drop (a - R.base) rs)) at_c.there.machine at_c.here.machine) whole at_c.machine)
+        subst (λ (r : Run Rec). AgreeOnPages (is_read reads (drop (a - R.base) (at_d.there.records ++ longer.rest)))
+        at_c.there.machine r.machine) same_c
+        (subst (λ (rs : List Rec). AgreeOnPages (is_read reads (drop (a - R.base) rs)) at_c.there.machine
+        at_c.here.machine) whole at_c.machine)
 
     place : c - W.base ≡ c - R.base - (a - R.base)
     place = rw base (omega (arith, from_base, from_a))
 
-    memory : kept_pages (is_read reads (drop (c - W.base) v.after.records)) v.before.machine.memory R.pages ≡ kept_pages (is_read reads (drop (c - R.base) at_d.there.records)) at_c.there.machine.memory R.pages
-    memory = rw place (inner_memory reads (a - R.base) (c - R.base) R.pages at_c.there.machine v.before.machine at_d.there.records v.after.records longer.rest (omega (arith, from_base, from_a)) (omega (arith, so_many, from_base, from_a, inner)) agree records)
+    memory : kept_pages (is_read reads (drop (c - W.base) v.after.records)) v.before.machine.memory R.pages ≡ kept_pages
+        (is_read reads (drop (c - R.base) at_d.there.records)) at_c.there.machine.memory R.pages
+    memory = rw place (inner_memory reads (a - R.base) (c - R.base) R.pages at_c.there.machine v.before.machine
+        at_d.there.records v.after.records longer.rest (omega (arith, from_base, from_a))
+        (omega (arith, so_many, from_base, from_a, inner)) agree records)
 
     events : events_between c d W.events ≡ events_between c d R.events
     events = rw w.is (events_between-inner a b c d R.events from_a to_b)

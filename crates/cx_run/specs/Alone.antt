@@ -14,7 +14,8 @@ pub record AgreeOnPages (keep : ℕ → Bool) (p q : MachineState) : Type 0 wher
 
 -- The first k steps of W are the k steps of R from a on: they have the same records, and behind them the machines agree
 -- on the pages that are kept.
-pub record RunsAlone {Rec : Type 0} (step : Step Rec) (keep : ℕ → Bool) (R : Recording) (a : ℕ) (W : Recording) (k : ℕ) : Type 0 where
+pub record RunsAlone {Rec : Type 0} (step : Step Rec) (keep : ℕ → Bool) (R : Recording) (a : ℕ) (W : Recording)
+    (k : ℕ) : Type 0 where
   pub there : Run Rec
   pub in_the_whole : run_of step R (a - R.base + k) ≡ Some there
   pub here : Run Rec

@@ -4,3 +4,4 @@ pub mod Run
 pub mod Window
 pub mod Alone
 pub mod FirstBad
+pub mod StepEvents

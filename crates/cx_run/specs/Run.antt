@@ -1,5 +1,6 @@
 -- The run of a recording, over any step function.
-use Rattle.std.specs.Prelude.{◌≡◌, ℕ, zero, suc, ◌+◌, ◌-◌, List, [], ◌∷◌, ◌++◌, Option, None, Some, IsSome, is_some, if◌then◌else◌}
+use Rattle.std.specs.Prelude.{ℕ, zero, suc, ◌+◌, ◌-◌, List, [], ◌∷◌, ◌++◌, Option, None, Some, IsSome, is_some}
+use Rattle.std.specs.Prelude.{if◌then◌else◌}
 use Rattle.cx_log.specs.Recording.{Recording}
 use Rattle.cx_log.specs.Order.{KeepsRules}
 use Rattle.cx_machine.specs.Due.{Due}

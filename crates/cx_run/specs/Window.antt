@@ -1,5 +1,6 @@
 -- A window of a recording: the steps from one up to another, with the pages that they read.
-use Rattle.std.specs.Prelude.{◌≡◌, ℕ, zero, suc, ◌-◌, ◌/◌, ◌<◌, ◌≤◌, nat_lt, nat_le, ◌==◌, ◌&&◌, Bool, true, false, List, [], ◌++◌, replicate, drop, filter, Some, if◌then◌else◌, not}
+use Rattle.std.specs.Prelude.{◌≡◌, ℕ, zero, suc, ◌-◌, ◌/◌, ◌<◌, ◌≤◌, nat_lt, nat_le, ◌==◌, ◌&&◌, Bool, true, false}
+use Rattle.std.specs.Prelude.{List, [], ◌++◌, replicate, drop, filter, Some, if◌then◌else◌, not}
 use Rattle.std.specs.List.{list_any}
 use Rattle.cx_map.specs.declared.TheConstants.{PAGE_SIZE}
 use Rattle.cx_ram.specs.PhysicalMemory.{page_of}
@@ -18,7 +19,8 @@ is_read reads records page = list_any (λ r. any_in_page (reads r) page) records
 -- the memory on the pages that are kept, of the pages below a number, and 0 elsewhere
 abbrev pub kept_pages : (ℕ → Bool) → List ℕ → ℕ → List ℕ
 kept_pages keep memory zero = []
-kept_pages keep memory (suc n) = kept_pages keep memory n ++ (if keep n then page_of memory n else replicate PAGE_SIZE 0)
+kept_pages keep memory (suc n) = kept_pages keep memory n ++ (if keep n then page_of memory n else replicate PAGE_SIZE
+    0)
 
 abbrev pub is_mark : Event → Bool
 is_mark Mark = true
@@ -26,7 +28,8 @@ is_mark _ = false
 
 -- the events of the steps from a on and below b, without a mark at a
 abbrev pub events_between : ℕ → ℕ → List Recorded → List Recorded
-events_between a b events = filter (λ r. nat_le a r.step && nat_lt r.step b && not (is_mark r.event && r.step == a)) events
+events_between a b events = filter (λ r. nat_le a r.step && nat_lt r.step b && not (is_mark r.event && r.step == a))
+    events
 
 -- The window, from the run up to a and the run up to b.
 abbrev pub window_from : {Rec : Type 0} → (Rec → List ℕ) → Recording → ℕ → ℕ → Run Rec → Run Rec → Recording
@@ -42,7 +45,8 @@ window_from reads R a b before after = record {
 }
 
 -- W is the window of R from step a up to step b.
-pub record IsWindow {Rec : Type 0} (step : Step Rec) (reads : Rec → List ℕ) (R : Recording) (a b : ℕ) (W : Recording) : Type 0 where
+pub record IsWindow {Rec : Type 0} (step : Step Rec) (reads : Rec → List ℕ) (R : Recording) (a b : ℕ)
+    (W : Recording) : Type 0 where
   pub from : R.base ≤ a
   pub some : a < b
   pub to : b ≤ R.end

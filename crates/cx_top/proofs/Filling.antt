@@ -1,5 +1,6 @@
 -- Pages of a recording, read one after another into a machine's memory.
-use Rattle.std.proofs.Common.{◌≡◌, ℕ, zero, suc, ◌+◌, ◌-◌, ◌*◌, List, Option, None, Some, Result, Ok, Err, arith, refl, ◌∙◌}
+use Rattle.std.proofs.Common.{◌≡◌, ℕ, zero, suc, ◌+◌, ◌-◌, ◌*◌, List, Option, None, Some, Result, Ok, Err, arith, refl}
+use Rattle.std.proofs.Common.{◌∙◌}
 use Rattle.cx_map.specs.declared.TheConstants.{PAGE_SIZE}
 use Rattle.cx_codec.specs.Place.{Place, Reader, read_on, done}
 use Rattle.cx_codec.specs.Reads.{Begins, Standing, Follows, Reads, place_in}

@@ -2,9 +2,10 @@
 use Rattle.cx_codec.specs.declared.fault.OutFault.{OutFault}
 use Rattle.cx_codec.specs.declared.fault.OutFault.TheVariants.{WriteFault as write_fault, NoMemory as no_room}
 use Rattle.cx_log.specs.declared.fault.LogFault.{LogFault}
-use Rattle.cx_log.specs.declared.fault.LogFault.TheVariants.{Format as bad_field, ReadFault as read_fault, NoMemory as no_memory}
-use Rattle.cx_window.specs.declared.fault.CutFault.{CutFault}
-use Rattle.cx_window.specs.declared.fault.CutFault.TheVariants.{Broken as broken, NoMemory as no_frame}
+use Rattle.cx_log.specs.declared.fault.LogFault.TheVariants.{Format as bad_field, ReadFault as read_fault}
+use Rattle.cx_log.specs.declared.fault.LogFault.TheVariants.{NoMemory as no_memory}
+use Rattle.cx_replay.specs.declared.fault.ReplayFault.{ReplayFault}
+use Rattle.cx_replay.specs.declared.fault.ReplayFault.TheVariants as replay
 use Rattle.cx_top.specs.declared.status.Status.{Status}
 use Rattle.cx_top.specs.declared.status.Status.TheVariants.{Broken, Format, ReadFault, WriteFault, NoMemory}
 
@@ -17,6 +18,8 @@ abbrev pub status_of_out : OutFault → Status
 status_of_out write_fault = WriteFault
 status_of_out no_room = NoMemory
 
-abbrev pub status_of_cut : CutFault → Status
-status_of_cut (broken n) = Broken n
-status_of_cut no_frame = NoMemory
+abbrev pub status_of_replay : ReplayFault → Status
+status_of_replay (replay.Format o) = Format o
+status_of_replay (replay.Broken n) = Broken n
+status_of_replay replay.ReadFault = ReadFault
+status_of_replay replay.NoMemory = NoMemory

@@ -1,10 +1,9 @@
 -- What stands before the records of a recording, up to where they begin.
-use Rattle.std.specs.Prelude.{◌≡◌, ℕ, zero, suc, ◌+◌, ◌*◌, false, IsTrue, List, Ok}
+use Rattle.std.specs.Prelude.{ℕ, zero, suc, ◌+◌, ◌*◌, List, Ok}
 use Rattle.cx_map.specs.declared.TheConstants.{PAGE_SIZE}
 use Rattle.cx_codec.specs.Place.{Reader, ◌>>=◌, done}
 use Rattle.cx_ram.specs.LittleEndian.{written}
-use Rattle.cx_log.specs.Engine.{Reading, begin_behind}
-use Rattle.cx_log.specs.Order.{IsHeader, at_start}
+use Rattle.cx_log.specs.Engine.{begin_behind}
 use Rattle.cx_log.specs.Reading.{Opened, opened_at, page_at}
 use Rattle.cx_log.specs.Scan.{begin_records}
 
@@ -17,14 +16,6 @@ unfoldable pub begun_at : Reader Opened
 begun_at = do
   opened ← opened_at
   then_records opened
-
--- a reader that stands before the first record
-pub record IsBegun (r : Reading) : Type 0 where
-  pub header : IsHeader r.header
-  pub left : r.left ≡ 0
-  pub behind : r.behind ≡ at_start r.header.base r.header.start
-  pub ended : r.ended ≡ false
-  pub live : IsTrue r.input.live
 
 -- The pages that are left, put into a memory. Behind the last the records begin.
 abbrev pub turned_pages_at : ℕ → ℕ → ℕ → List ℕ → Reader (List ℕ)

@@ -2,7 +2,8 @@
 use Rattle.std.specs.Prelude.{ℕ, List, ◌++◌, codes}
 use Rattle.std.specs.Fmt.{decimal}
 use Rattle.cx_top.specs.declared.status.Status.{Status}
-use Rattle.cx_top.specs.declared.status.Status.TheVariants.{Done, Usage, Format, Broken, NotThere, ReadFault, WriteFault, WorldFault, NoMemory, NotBuilt}
+use Rattle.cx_top.specs.declared.status.Status.TheVariants.{Done, Usage, Format, Broken, NotThere, ReadFault}
+use Rattle.cx_top.specs.declared.status.Status.TheVariants.{WriteFault, WorldFault, NoMemory, NotBuilt}
 
 abbrev pub status_number : Status → ℕ
 status_number Done = 0

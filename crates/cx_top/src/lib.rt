@@ -6,6 +6,7 @@ mod open;
 mod status;
 #[cfg(test)]
 mod tests;
+mod trace;
 mod window;
 
 pub use call::run;

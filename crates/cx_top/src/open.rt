@@ -8,7 +8,8 @@ ghost use Rattle.cx_log.specs.Order.{IsHeader};
 ghost use Rattle.cx_log.specs.Reading.{magic_at};
 ghost use Rattle.cx_machine.specs.Machine.{IsMemory};
 ghost use Rattle.cx_map.specs.Map.{size_of_pages};
-ghost use Rattle.cx_top.specs.Opening.{IsBegun, begun_at, turned_pages_at};
+ghost use Rattle.cx_replay.specs.LogRecords.{IsBegun};
+ghost use Rattle.cx_top.specs.Opening.{begun_at, turned_pages_at};
 
 use cx_codec::Bytes;
 use cx_hart::Machine;

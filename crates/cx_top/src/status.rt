@@ -2,7 +2,7 @@
 
 ghost use Rattle.std.specs.Prelude.{◌≡◌, ◌≤◌, ◌++◌, length};
 ghost use Rattle.std.specs.Fmt.{decimal};
-ghost use Rattle.cx_top.specs.Faults.{status_of_cut, status_of_log, status_of_out};
+ghost use Rattle.cx_top.specs.Faults.{status_of_replay, status_of_log, status_of_out};
 ghost use Rattle.cx_top.specs.declared.status.Status.TheVariants.{NoMemory as no_memory};
 ghost use Rattle.cx_top.specs.Status.{status_line, status_number};
 
@@ -10,7 +10,7 @@ use cx_codec::OutFault;
 use cx_io::NoMemory;
 use cx_log::LogFault;
 use cx_print::Text;
-use cx_window::CutFault;
+use cx_replay::ReplayFault;
 
 /// How a command ended.
 #[derive(Clone, Copy, Debug, PartialEq, Eq)]
@@ -106,13 +106,15 @@ impl From<OutFault> for Status {
     }
 }
 
-impl From<CutFault> for Status {
-    ghost from_gives = { λ fault s. s ≡ status_of_cut fault };
+impl From<ReplayFault> for Status {
+    ghost from_gives = { λ fault s. s ≡ status_of_replay fault };
 
-    fn from(fault: CutFault) -> Self {
+    fn from(fault: ReplayFault) -> Self {
         match fault {
-            CutFault::Broken(step) => Status::Broken(step),
-            CutFault::NoMemory => Status::NoMemory,
+            ReplayFault::Format(offset) => Status::Format(offset),
+            ReplayFault::Broken(step) => Status::Broken(step),
+            ReplayFault::ReadFault => Status::ReadFault,
+            ReplayFault::NoMemory => Status::NoMemory,
         }
     }
 }

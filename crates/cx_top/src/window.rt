@@ -3,27 +3,22 @@
 ghost use Rattle.std.specs.Prelude.{◌≡◌, List, ℕ, IfOk, IfErr, IsSome, Ok};
 ghost use Rattle.cx_io.specs.Cause.{HasCause};
 ghost use Rattle.cx_codec.specs.Reads.{Begins, over, place_in};
-ghost use Rattle.cx_log.specs.Item.{is_end};
 ghost use Rattle.cx_log.specs.Reading.{start_of};
 ghost use Rattle.cx_machine.specs.Machine.{IsMemory};
 ghost use Rattle.cx_map.specs.Bytes.{AreBytes};
-ghost use Rattle.cx_top.specs.Call.{CausedBy, IsBeforeWriting, IsWindowStatus, MayBeWhole, input_behind};
-ghost use Rattle.cx_top.specs.Opening.{IsBegun, begun_at};
+ghost use Rattle.cx_top.specs.Call.{CausedBy, Consumes, IsBeforeWriting, IsWindowStatus, JudgesAll, ReadAll};
+ghost use Rattle.cx_top.specs.Call.{input_behind};
+ghost use Rattle.cx_replay.specs.LogRecords.{IsBegun};
+ghost use Rattle.cx_replay.specs.Records.{MayBeWhole};
+ghost use Rattle.cx_top.specs.Opening.{begun_at};
 ghost use Rattle.cx_top.specs.Window.{AnswersWindow, IsReadRefusal, LeavesWindow, ReadsSlice};
 
 use crate::open::{Opening, open};
 use crate::status::Status;
 use cx_io::{Sink, Source};
-use cx_log::What;
+use cx_replay::Replay;
 use cx_window::{Slice, Span, cut};
 use std::alloc::Global;
-
-// Whether a record is End.
-fn is_end(what: &What) -> bool
-    ensures { result ≡ is_end what.now }
-{
-    matches!(what, What::End)
-}
 
 // Reads the records of an opened recording, runs it, and cuts the window off.
 fn cut_opened<S: Source>(
@@ -36,27 +31,23 @@ fn cut_opened<S: Source>(
     requires state { opening.machine.state ≡ opening.reader.header.start }
     requires memory { IsMemory opening.reader.header.pages opening.machine.memory }
     requires split { opening.machine.split ≡ opening.reader.header.split }
-    ensures reads { IsSome (S.left source.old) → (input bytes : List ℕ) → Begins (S.given source.new) input → AreBytes bytes
+    ensures reads { IsSome (S.left source.old) → (input bytes : List ℕ) → Begins (S.given source.new) input
+        → AreBytes bytes
         → begun_at (start_of bytes) ≡ Ok (
           record { header = opening.reader.header; memory = opening.machine.memory },
           place_in (over opening.reader.input (S.left source.old) (S.given source.old)) input,
         )
-        → ReadsSlice span.from span.to bytes (MayBeWhole (S.left source.new) (S.given source.new) input) (input ≡ S.given source.new) result }
-    ensures grows { IsSome (S.left source.old) → Begins (S.given source.old) (S.given source.new) }
+        → ReadsSlice span.from span.to bytes (MayBeWhole (S.left source.new) (S.given source.new) input)
+        (input ≡ S.given source.new) result }
+    ensures consumes { IsSome (S.left source.old)
+        → Consumes (S.left source.old) (S.given source.old) (S.left source.new) (S.given source.new) (ReadAll result) }
     ensures kind { IfErr result IsReadRefusal }
     ensures cause { HasCause Status.ReadFault (S.faults source.old) (S.faults source.new) result }
 {
-    let Opening {
-        mut reader,
-        machine,
-    } = opening;
+    let Opening { reader, machine } = opening;
     let header = *reader.header();
-    let item = reader.next(source)?;
-    if !is_end(&item.what) {
-        return Err(Status::NotBuilt(header.base));
-    }
-    let window = cut(alloc, machine, &header, item.step, span)?;
-    reader.close(source)?;
+    let replay = Replay::of_log(alloc, reader, machine);
+    let window = cut(alloc, replay, &header, span, source)?;
     match window {
         Some(slice) => Ok(slice),
         None => Err(Status::NotThere),
@@ -65,9 +56,12 @@ fn cut_opened<S: Source>(
 
 // Reads a whole recording, and cuts the window off.
 fn read_slice<S: Source>(alloc: Global, span: Span, source: &mut S) -> Result<Slice, Status>
-    ensures reads { IsSome (S.left source.old) → (input : List ℕ) → Begins (S.given source.new) input → AreBytes (input_behind (S.given source.old) input)
+    ensures reads { IsSome (S.left source.old) → (input : List ℕ) → Begins (S.given source.new) input
+        → AreBytes (input_behind (S.given source.old) input)
         → ReadsSlice span.from span.to (input_behind (S.given source.old) input)
         (MayBeWhole (S.left source.new) (S.given source.new) input) (input ≡ S.given source.new) result }
+    ensures consumes { IsSome (S.left source.old)
+        → Consumes (S.left source.old) (S.given source.old) (S.left source.new) (S.given source.new) (ReadAll result) }
     ensures kind { IfErr result IsReadRefusal }
     ensures cause { HasCause Status.ReadFault (S.faults source.old) (S.faults source.new) result }
 {
@@ -82,12 +76,17 @@ pub(crate) fn window<S: Source, T: Sink>(
     source: &mut S,
     sink: &mut T,
 ) -> Status
-    ensures answer { IsSome (S.left source.old) → (input : List ℕ) → Begins (S.given source.new) input → AreBytes (input_behind (S.given source.old) input)
+    ensures answer { IsSome (S.left source.old) → (input : List ℕ) → Begins (S.given source.new) input
+        → AreBytes (input_behind (S.given source.old) input)
         → AnswersWindow span.from span.to (input_behind (S.given source.old) input)
         (MayBeWhole (S.left source.new) (S.given source.new) input) (input ≡ S.given source.new) result }
-    ensures leaves { IsSome (S.left source.old) → (input : List ℕ) → Begins (S.given source.new) input → AreBytes (input_behind (S.given source.old) input)
+    ensures leaves { IsSome (S.left source.old) → (input : List ℕ) → Begins (S.given source.new) input
+        → AreBytes (input_behind (S.given source.old) input)
         → LeavesWindow span.from span.to (input_behind (S.given source.old) input)
         (MayBeWhole (S.left source.new) (S.given source.new) input) result (T.held sink.old) (T.held sink.new) }
+    ensures consumes { IsSome (S.left source.old)
+        → Consumes (S.left source.old) (S.given source.old) (S.left source.new) (S.given source.new)
+        (JudgesAll result) }
     ensures kind { IsWindowStatus result }
     ensures untouched { IsBeforeWriting result → sink.new ≡ sink.old }
     ensures read_cause { CausedBy Status.ReadFault (S.faults source.old) (S.faults source.new) result }

@@ -7,7 +7,8 @@ use Rattle.cx_csr.specs.Bits.{is_set, with_bits}
 use Rattle.cx_trap.specs.Causes.{is_interrupt, cause_number}
 use Rattle.cx_csr.specs.declared.fields.TheConstants.{VECTORED, TVEC_BASE}
 use Rattle.cx_csr.specs.declared.modes.TheConstants.{SUPERVISOR, MACHINE}
-use Rattle.cx_csr.specs.declared.status.TheConstants.{SIE, MIE, SPIE, MPIE, SPP, MPP, MACHINE_TRAP_FIELDS, SUPERVISOR_TRAP_FIELDS}
+use Rattle.cx_csr.specs.declared.status.TheConstants.{SIE, MIE, SPIE, MPIE, SPP, MPP, MACHINE_TRAP_FIELDS}
+use Rattle.cx_csr.specs.declared.status.TheConstants.{SUPERVISOR_TRAP_FIELDS}
 
 -- A trap goes to supervisor mode where its cause is delegated, but never down from machine mode.
 abbrev pub is_delegated : State → ℕ → Bool
@@ -17,7 +18,8 @@ is_delegated s cause =
 -- Where the trap goes: the base of the vector, and for an interrupt in vectored mode four bytes on for each number.
 abbrev pub vector : ℕ → ℕ → ℕ
 vector tvec cause =
-    (bit_and tvec TVEC_BASE + (if is_interrupt cause && is_set tvec VECTORED then 4 * cause_number cause else 0)) % 2 ^ 32
+    (bit_and tvec TVEC_BASE + (if is_interrupt cause && is_set tvec VECTORED then 4 * cause_number cause else 0)) % 2 ^
+    32
 
 -- mstatus: MPIE := MIE, MIE := 0, MPP := mode
 abbrev pub status_into_machine : ℕ → ℕ → ℕ
@@ -25,7 +27,8 @@ status_into_machine mode status = with_bits MACHINE_TRAP_FIELDS (bit_at status M
 
 -- mstatus: SPIE := SIE, SIE := 0, SPP := mode
 abbrev pub status_into_supervisor : ℕ → ℕ → ℕ
-status_into_supervisor mode status = with_bits SUPERVISOR_TRAP_FIELDS (bit_at status SIE * 2 ^ SPIE + mode * 2 ^ SPP) status
+status_into_supervisor mode status = with_bits SUPERVISOR_TRAP_FIELDS (bit_at status SIE * 2 ^ SPIE + mode * 2 ^ SPP)
+    status
 
 abbrev pub into_machine : ℕ → ℕ → State → State
 into_machine cause tval s = record s {
@@ -38,7 +41,13 @@ abbrev pub into_supervisor : ℕ → ℕ → State → State
 into_supervisor cause tval s = record s {
   pc = vector s.csr.stvec cause;
   mode = SUPERVISOR;
-  csr = record s.csr { mstatus = status_into_supervisor s.mode s.csr.mstatus; sepc = s.pc; scause = cause; stval = tval };
+  csr = record s.csr {
+    mstatus = status_into_supervisor s.mode s.csr.mstatus;
+    sepc = s.pc;
+    scause = cause;
+    stval =
+        tval;
+  };
 }
 
 -- the state after the trap was taken, but for the reservation

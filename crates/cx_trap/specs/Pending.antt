@@ -16,13 +16,15 @@ enabled_bits s = bit_and (pending_bits s) s.csr.mie
 -- Those that aren't delegated may be taken to machine mode: always from below it, and in it where MIE is set.
 abbrev pub to_machine : State → ℕ
 to_machine s =
-    if nat_lt s.mode MACHINE || is_set s.csr.mstatus MIE then bit_and (enabled_bits s) (2 ^ 32 - 1 - s.csr.mideleg) else 0
+    if nat_lt s.mode MACHINE || is_set s.csr.mstatus MIE then bit_and (enabled_bits s) (2 ^ 32 - 1 - s.csr.mideleg) else
+    0
 
 -- Those that are delegated may be taken to supervisor mode: always from user mode, in supervisor mode where SIE is set,
 -- and never from machine mode.
 abbrev pub to_supervisor : State → ℕ
 to_supervisor s =
-    if s.mode == USER || (s.mode == SUPERVISOR && is_set s.csr.mstatus SIE) then bit_and (enabled_bits s) s.csr.mideleg else 0
+    if s.mode == USER || (s.mode == SUPERVISOR && is_set s.csr.mstatus SIE) then bit_and (enabled_bits s) s.csr.mideleg
+    else 0
 
 -- the first interrupt among these bits
 abbrev pub first_of : ℕ → Option ℕ

@@ -1,11 +1,12 @@
--- Return from a trap (Privileged 1.12, section 3.3.2 for the instructions, 3.1.6.1 and 3.1.6.3 for the fields, 3.1.6.5 for
--- TSR).
+-- Return from a trap (Privileged 1.12, section 3.3.2 for the instructions, 3.1.6.1 and 3.1.6.3 for the fields, 3.1.6.5
+-- for TSR).
 use Rattle.std.specs.Prelude.{ℕ, ◌+◌, ◌*◌, ◌^◌, Bool, not, ◌==◌, ◌&&◌, ◌||◌, if◌then◌else◌}
 use Rattle.std.specs.Int.{bit_at}
 use Rattle.cx_csr.specs.declared.state.State.{State}
 use Rattle.cx_csr.specs.Bits.{is_set, previous_of_machine, with_bits}
 use Rattle.cx_csr.specs.declared.modes.TheConstants.{SUPERVISOR, MACHINE}
-use Rattle.cx_csr.specs.declared.status.TheConstants.{SIE, MIE, SPIE, MPIE, SPP, TSR, MACHINE_TRAP_FIELDS, MACHINE_RETURN_FIELDS, SUPERVISOR_RETURN_FIELDS}
+use Rattle.cx_csr.specs.declared.status.TheConstants.{SIE, MIE, SPIE, MPIE, SPP, TSR, MACHINE_TRAP_FIELDS}
+use Rattle.cx_csr.specs.declared.status.TheConstants.{MACHINE_RETURN_FIELDS, SUPERVISOR_RETURN_FIELDS}
 
 -- MRET is legal in machine mode.
 abbrev pub can_mret : State → Bool

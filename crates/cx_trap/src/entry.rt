@@ -3,7 +3,8 @@
 ghost use Rattle.std.specs.Prelude.{◌≡◌, ℕ, ◌<◌, ◌%◌, ◌^◌, None, IsTrue};
 ghost use Rattle.cx_csr.specs.Keeps.{Keeps};
 ghost use Rattle.cx_trap.specs.Causes.{is_cause};
-ghost use Rattle.cx_trap.specs.Enter.{entered, into_machine, into_supervisor, is_delegated, delivered, status_into_machine, status_into_supervisor, vector};
+ghost use Rattle.cx_trap.specs.Enter.{entered, into_machine, into_supervisor, is_delegated, delivered};
+ghost use Rattle.cx_trap.specs.Enter.{status_into_machine, status_into_supervisor, vector};
 
 use crate::causes::{cause_number, is_interrupt};
 use cx_csr::fields::{TVEC_BASE, VECTORED};
@@ -11,9 +12,9 @@ use cx_csr::modes::{MACHINE, SUPERVISOR};
 use cx_csr::status::{MACHINE_TRAP_FIELDS, MIE, MPIE, MPP, SIE, SPIE, SPP, SUPERVISOR_TRAP_FIELDS};
 use cx_csr::{State, is_bit_set, replace_bits};
 
-/// Takes a trap of this cause, which has `INTERRUPT_BIT` where it is an interrupt, with the address or the word that it is taken
-/// for: pc and the cause are kept, interrupts are masked, and the hart goes on at the trap vector of machine mode, or of
-/// supervisor mode where the cause is delegated. The reservation is dropped.
+/// Takes a trap of this cause, which has `INTERRUPT_BIT` where it is an interrupt, with the address or the word that it
+/// is taken for: pc and the cause are kept, interrupts are masked, and the hart goes on at the trap vector of machine
+/// mode, or of supervisor mode where the cause is delegated. The reservation is dropped.
 #[tactic(auto, unfolding(crate::specs::Enter::entered))]
 pub fn enter(state: &mut State, cause: u32, tval: u32)
     requires { IsTrue (is_cause cause) }

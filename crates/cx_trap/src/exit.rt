@@ -2,7 +2,8 @@
 
 ghost use Rattle.std.specs.Prelude.{◌≡◌, ℕ, not, if◌then◌else◌, is_err};
 ghost use Rattle.cx_csr.specs.Keeps.{Keeps};
-ghost use Rattle.cx_trap.specs.Return.{after_mret, after_sret, can_mret, can_sret, status_out_of_machine, status_out_of_supervisor};
+ghost use Rattle.cx_trap.specs.Return.{after_mret, after_sret, can_mret, can_sret, status_out_of_machine};
+ghost use Rattle.cx_trap.specs.Return.{status_out_of_supervisor};
 
 use cx_csr::modes::{MACHINE, SUPERVISOR};
 use cx_csr::status::{
@@ -41,9 +42,9 @@ pub fn mret(state: &mut State) -> Result<(), Illegal>
     Ok(())
 }
 
-/// Returns from a trap to supervisor mode, which is legal in machine mode, and in supervisor mode where TSR is 0: the hart
-/// goes on at `sepc` in the mode before the trap, with interrupts enabled as they were. The reservation stays. A refusal
-/// changes nothing.
+/// Returns from a trap to supervisor mode, which is legal in machine mode, and in supervisor mode where TSR is 0: the
+/// hart goes on at `sepc` in the mode before the trap, with interrupts enabled as they were. The reservation stays. A
+/// refusal changes nothing.
 #[tactic(auto, unfolding(crate::specs::Return::after_sret))]
 pub fn sret(state: &mut State) -> Result<(), Illegal>
     ensures illegal { is_err result ≡ not (can_sret state.old) }
@@ -78,7 +79,8 @@ fn leave_supervisor(state: &mut State)
     state.csr.mstatus = unmasked_for_supervisor(status);
 }
 
-/// `mstatus` with MPIE moved to MIE and set, MPP cleared, and MPRV cleared where the mode returned to isn't machine mode.
+/// `mstatus` with MPIE moved to MIE and set, MPP cleared, and MPRV cleared where the mode returned to isn't machine
+/// mode.
 fn unmasked_for_machine(status: u32) -> u32
     ensures { result ≡ status_out_of_machine status }
 {

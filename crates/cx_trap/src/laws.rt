@@ -17,7 +17,8 @@ pub fn pending_is_a_cause()
 
 /// Entry into a trap keeps the rules.
 pub fn traps_keep()
-    ensures { (pages cause tval : ℕ) (s : State) → IsTrue (is_cause cause) → tval < 2 ^ 32 → Keeps pages s → Keeps pages (entered cause tval s) }
+    ensures { (pages cause tval : ℕ) (s : State) → IsTrue (is_cause cause) → tval < 2 ^ 32 → Keeps pages s
+        → Keeps pages (entered cause tval s) }
 {}
 
 /// Return from a trap keeps the rules.

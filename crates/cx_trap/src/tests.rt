@@ -33,8 +33,8 @@ fn state(mode: u8, mstatus: u32) -> Result<State, Fail> {
     Ok(s)
 }
 
-/// A trap: the mode and `mstatus` before it, `medeleg`, `mideleg`, whether vectors are vectored, and the cause; then the
-/// mode, pc and `mstatus` behind it.
+/// A trap: the mode and `mstatus` before it, `medeleg`, `mideleg`, whether vectors are vectored, and the cause; then
+/// the mode, pc and `mstatus` behind it.
 const ENTRIES: [((u8, u32), (u32, u32, bool, u32), (u8, u32, u32)); 8] = [
     (
         (USER, 1 << MIE),
@@ -176,7 +176,8 @@ fn a_return_restores_mode_and_enables_or_is_illegal(rt: HostRuntime) -> Result<(
     Ok(())
 }
 
-/// Mode and `mstatus`; `mideleg`, `mie`, the software bits of `mip` and the lines; then the interrupt that is to be taken.
+/// Mode and `mstatus`; `mideleg`, `mie`, the software bits of `mip` and the lines; then the interrupt that is to be
+/// taken.
 const PENDING: [((u8, u32), [u32; 4], Option<u32>); 16] = [
     ((USER, 0), [0, 0xaaa, 0, 0], None),
     ((USER, 0), [0, 0, 0x222, 0xa88], None),

@@ -1,7 +1,12 @@
 -- Each word of the devices is found at its place.
 use Rattle.std.proofs.Common.{◌≡◌, Some, refl}
 use Rattle.cx_walk.specs.declared.device.DeviceWord.{DeviceWord}
-use Rattle.cx_walk.specs.declared.device.DeviceWord.TheVariants.{Power, SoftwareInterrupt, TimeCompareLow, TimeCompareHigh, TimeLow, TimeHigh, MachineInterruptMask, SupervisorInterruptMask, InterruptPending, ConsoleData, ConsoleState, BlockSector, BlockAddress, BlockCount, BlockCommand, BlockState}
+use Rattle.cx_walk.specs.declared.device.DeviceWord.TheVariants.{Power, SoftwareInterrupt, TimeCompareLow}
+use Rattle.cx_walk.specs.declared.device.DeviceWord.TheVariants.{TimeCompareHigh, TimeLow, TimeHigh}
+use Rattle.cx_walk.specs.declared.device.DeviceWord.TheVariants.{MachineInterruptMask, SupervisorInterruptMask}
+use Rattle.cx_walk.specs.declared.device.DeviceWord.TheVariants.{InterruptPending, ConsoleData, ConsoleState}
+use Rattle.cx_walk.specs.declared.device.DeviceWord.TheVariants.{BlockSector, BlockAddress, BlockCount, BlockCommand}
+use Rattle.cx_walk.specs.declared.device.DeviceWord.TheVariants.{BlockState}
 use Rattle.cx_walk.specs.Devices.{device_at, device_place}
 
 pub found_at_place : (word : DeviceWord) → device_at (device_place word) ≡ Some word

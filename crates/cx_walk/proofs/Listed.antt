@@ -1,5 +1,6 @@
 -- What the trail of a walk lists.
-use Rattle.std.proofs.Common.{◌≡◌, ℕ, zero, suc, ◌%◌, ◌<◌, ◌≤◌, [], ◌∷◌, Option, None, Some, Result, Ok, Err, IsSome, is_some, slice_index, refl, ap, arith}
+use Rattle.std.proofs.Common.{◌≡◌, ℕ, zero, suc, ◌%◌, ◌<◌, ◌≤◌, [], ◌∷◌, Option, None, Some, Result, Ok, Err, IsSome}
+use Rattle.std.proofs.Common.{is_some, slice_index, refl, ap, arith}
 use Rattle.cx_csr.specs.declared.state.State.{State}
 use Rattle.cx_walk.specs.declared.kind.Kind.{Kind}
 use Rattle.cx_walk.specs.declared.entry.Size.TheVariants.{Page, Megapage}
@@ -49,7 +50,8 @@ module _ (word : ℕ → Option ℕ) where
         unused (suc zero) past = refl
         unused (suc (suc i)) past = refl
 
-    two_listed : (second : ℕ) (outcome : Result ℕ ℕ) → second % 4 ≡ 0 → IsSome (word second) → Lists word (record { count = 2; places = first ∷ second ∷ []; outcome = outcome })
+    two_listed : (second : ℕ) (outcome : Result ℕ ℕ) → second % 4 ≡ 0 → IsSome (word second)
+        → Lists word (record { count = 2; places = first ∷ second ∷ []; outcome = outcome })
     two_listed second outcome second_aligned second_there = record {
       most = omega arith;
       inside = inside;
@@ -68,16 +70,19 @@ module _ (word : ℕ → Option ℕ) where
         unused (suc (suc i)) past = refl
 
   module _ (s : State) (kind : Kind) (va : ℕ) where
-    second_lists : (first second : ℕ) → first % 4 ≡ 0 → second % 4 ≡ 0 → IsSome (word first) → (o : Option ℕ) → word second ≡ o → Lists word (from_second s kind va first second o)
+    second_lists : (first second : ℕ) → first % 4 ≡ 0 → second % 4 ≡ 0 → IsSome (word first) → (o : Option ℕ)
+        → word second ≡ o → Lists word (from_second s kind va first second o)
     second_lists first second a b there None e = one_listed first a there (Err (access_fault kind))
     second_lists first second a b there (Some entry) e =
         two_listed first a there second (address_through s kind va Page entry) b (ap is_some e)
 
-    first_lists : (first : ℕ) → first % 4 ≡ 0 → (o : Option ℕ) → word first ≡ o → Lists word (from_first word s kind va first o)
+    first_lists : (first : ℕ) → first % 4 ≡ 0 → (o : Option ℕ) → word first ≡ o
+        → Lists word (from_first word s kind va first o)
     first_lists first a None e = none_listed (Err (access_fault kind))
     first_lists first a (Some entry) e =
         either (Lists word) (is_pointer entry) _ _
-        (λ pointer. second_lists first (second_place entry va) a (omega arith) (ap is_some e) (word (second_place entry va)) refl)
+        (λ pointer. second_lists first (second_place entry va) a (omega arith) (ap is_some e)
+        (word (second_place entry va)) refl)
         (λ leaf. one_listed first a (ap is_some e) (address_through s kind va Megapage entry))
 
     pub trail_lists : Lists word (trail_of word s kind va)
@@ -87,7 +92,8 @@ module _ (word : ℕ → Option ℕ) where
         (λ translated. first_lists (first_place s.csr.satp va) (omega arith) (word (first_place s.csr.satp va)) refl)
 
 module _ (word : ℕ → Option ℕ) (pages : ℕ) (s : State) (kind : Kind) (va len : ℕ) where
-  pub places_inside : (i : ℕ) → i < (walk_of word pages s kind va len).count → IsSome (word (slice_index (walk_of word pages s kind va len).places i))
+  pub places_inside : (i : ℕ) → i < (walk_of word pages s kind va len).count
+      → IsSome (word (slice_index (walk_of word pages s kind va len).places i))
   unfolding walk_of
   places_inside = (trail_lists word s kind va).inside
 
@@ -95,7 +101,8 @@ module _ (word : ℕ → Option ℕ) (pages : ℕ) (s : State) (kind : Kind) (va
   unfolding walk_of
   places_aligned = (trail_lists word s kind va).aligned
 
-  pub places_unused : (i : ℕ) → (walk_of word pages s kind va len).count ≤ i → slice_index (walk_of word pages s kind va len).places i ≡ 0
+  pub places_unused : (i : ℕ) → (walk_of word pages s kind va len).count ≤ i
+      → slice_index (walk_of word pages s kind va len).places i ≡ 0
   unfolding walk_of
   places_unused = (trail_lists word s kind va).unused
 

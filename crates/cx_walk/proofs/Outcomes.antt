@@ -1,5 +1,6 @@
 -- What a walk comes to: its address has the offset of the virtual one, and its fault is one of its kind of access.
-use Rattle.std.proofs.Common.{◌≡◌, ℕ, ◌%◌, ◌&&◌, inl, inr, is_some, Option, None, Some, Result, Ok, Err, IfOk, IfErr, refl, subst, arith}
+use Rattle.std.proofs.Common.{◌≡◌, ℕ, ◌%◌, ◌&&◌, inl, inr, is_some, Option, None, Some, Result, Ok, Err, IfOk, IfErr}
+use Rattle.std.proofs.Common.{refl, subst, arith}
 use Rattle.std.specs.Result.{result_ok}
 use Rattle.cx_csr.specs.Rules.{is_in_ram}
 use Rattle.cx_csr.specs.declared.state.State.{State}
@@ -12,7 +13,8 @@ use Rattle.cx_walk.specs.Devices.{device_at}
 use Rattle.cx_walk.specs.Entry.{first_place, is_open, is_pointer, physical_address, second_place}
 use Rattle.cx_walk.specs.Kinds.{IsFault, page_fault}
 use Rattle.cx_walk.specs.Mode.{is_bare}
-use Rattle.cx_walk.specs.Walks.{address_of, address_through, walk_answer, from_first, from_second, is_for_devices, place_at, trail_of, walk_of}
+use Rattle.cx_walk.specs.Walks.{address_of, address_through, walk_answer, from_first, from_second, is_for_devices}
+use Rattle.cx_walk.specs.Walks.{place_at, trail_of, walk_of}
 use Rattle.cx_walk.proofs.Branches.{either}
 use Rattle.cx_walk.proofs.Found.{walk_stands}
 use Rattle.cx_map.specs.Map.{size_of_pages}
@@ -42,7 +44,8 @@ module _ (s : State) (kind : Kind) (va : ℕ) where
   from_second_comes first second None = inl refl
   from_second_comes first second (Some entry) = through_comes Page entry
 
-  from_first_comes : (word : ℕ → Option ℕ) (first : ℕ) (o : Option ℕ) → Comes kind va (from_first word s kind va first o).outcome
+  from_first_comes : (word : ℕ → Option ℕ) (first : ℕ) (o : Option ℕ)
+      → Comes kind va (from_first word s kind va first o).outcome
   from_first_comes word first None = inl refl
   from_first_comes word first (Some entry) =
       let P : Trail → Type 0 = λ t. Comes kind va t.outcome in
@@ -62,22 +65,29 @@ module _ (s : State) (kind : Kind) (va : ℕ) where
   place_faults pages len address =
       let P : Result Place ℕ → Type 0 = λ r. IfErr r (IsFault kind) in
       either P (is_in_ram (size_of_pages pages) address len) _ _ (λ inside. tt)
-      (λ outside. either P (is_for_devices kind len && is_some (device_at address)) _ _ (λ device. tt) (λ none. inl refl))
+      (λ outside. either P (is_for_devices kind len && is_some (device_at address)) _ _ (λ device. tt)
+      (λ none. inl refl))
 
-  answer_faults : (pages len : ℕ) (outcome : Result ℕ ℕ) → Comes kind va outcome → IfErr (walk_answer pages kind len outcome) (IsFault kind)
+  answer_faults : (pages len : ℕ) (outcome : Result ℕ ℕ) → Comes kind va outcome
+      → IfErr (walk_answer pages kind len outcome) (IsFault kind)
   answer_faults pages len (Ok address) comes = place_faults pages len address
   answer_faults pages len (Err cause) comes = comes
 
-  answer_offset : (outcome : Result ℕ ℕ) (answer : Result Place ℕ) → Comes kind va outcome → IfOk answer (λ place. result_ok outcome ≡ Some (address_of place)) → IfOk answer (λ place. SameOffset va (address_of place))
+  answer_offset : (outcome : Result ℕ ℕ) (answer : Result Place ℕ) → Comes kind va outcome
+      → IfOk answer (λ place. result_ok outcome ≡ Some (address_of place))
+      → IfOk answer (λ place. SameOffset va (address_of place))
   answer_offset outcome (Err cause) comes stands = tt
   answer_offset (Err cause) (Ok place) comes stands = absurd cc
-  answer_offset (Ok address) (Ok place) comes stands = let e : address ≡ address_of place = cc in subst (SameOffset va) e comes
+  answer_offset (Ok address) (Ok place) comes stands = let e : address ≡ address_of place = cc in
+      subst (SameOffset va) e comes
 
   module _ (word : ℕ → Option ℕ) (pages len : ℕ) where
     pub walk_faults : IfErr (walk_of word pages s kind va len).answer (IsFault kind)
     unfolding walk_of
     walk_faults = answer_faults pages len (trail_of word s kind va).outcome (trail_comes word)
 
-    pub walk_offset : IfOk (walk_of word pages s kind va len).answer (λ place. address_of place % PAGE_SIZE ≡ va % PAGE_SIZE)
+    pub walk_offset : IfOk (walk_of word pages s kind va len).answer (λ place. address_of place % PAGE_SIZE
+        ≡ va % PAGE_SIZE)
     unfolding walk_of
-    walk_offset = answer_offset (trail_of word s kind va).outcome _ (trail_comes word) (walk_stands word pages s kind va len)
+    walk_offset = answer_offset (trail_of word s kind va).outcome _ (trail_comes word)
+        (walk_stands word pages s kind va len)

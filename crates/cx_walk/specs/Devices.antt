@@ -2,7 +2,12 @@
 use Rattle.std.specs.Prelude.{ℕ, ◌==◌, List, [], ◌∷◌, Option}
 use Rattle.std.specs.List.{find}
 use Rattle.cx_walk.specs.declared.device.DeviceWord.{DeviceWord}
-use Rattle.cx_walk.specs.declared.device.DeviceWord.TheVariants.{Power, SoftwareInterrupt, TimeCompareLow, TimeCompareHigh, TimeLow, TimeHigh, MachineInterruptMask, SupervisorInterruptMask, InterruptPending, ConsoleData, ConsoleState, BlockSector, BlockAddress, BlockCount, BlockCommand, BlockState}
+use Rattle.cx_walk.specs.declared.device.DeviceWord.TheVariants.{Power, SoftwareInterrupt, TimeCompareLow}
+use Rattle.cx_walk.specs.declared.device.DeviceWord.TheVariants.{TimeCompareHigh, TimeLow, TimeHigh}
+use Rattle.cx_walk.specs.declared.device.DeviceWord.TheVariants.{MachineInterruptMask, SupervisorInterruptMask}
+use Rattle.cx_walk.specs.declared.device.DeviceWord.TheVariants.{InterruptPending, ConsoleData, ConsoleState}
+use Rattle.cx_walk.specs.declared.device.DeviceWord.TheVariants.{BlockSector, BlockAddress, BlockCount, BlockCommand}
+use Rattle.cx_walk.specs.declared.device.DeviceWord.TheVariants.{BlockState}
 
 abbrev pub device_words : List DeviceWord
 device_words =

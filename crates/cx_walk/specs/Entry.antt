@@ -1,5 +1,5 @@
--- The entries of a page table of Sv32 (Privileged 1.12, section 4.3.1), and what each step of a translation makes of them
--- (section 4.3.2; the numbers of the steps stand at the lines).
+-- The entries of a page table of Sv32 (Privileged 1.12, section 4.3.1), and what each step of a translation makes of
+-- them (section 4.3.2; the numbers of the steps stand at the lines).
 use Rattle.std.specs.Prelude.{ℕ, ◌+◌, ◌*◌, ◌/◌, ◌%◌, ◌^◌, Bool, true, not, ◌&&◌, ◌||◌, ◌==◌, if◌then◌else◌}
 use Rattle.cx_csr.specs.Bits.{is_set}
 use Rattle.cx_csr.specs.declared.state.State.{State}
@@ -12,7 +12,8 @@ use Rattle.cx_walk.specs.Mode.{effective_mode}
 use Rattle.cx_csr.specs.declared.modes.TheConstants.{USER}
 use Rattle.cx_csr.specs.declared.status.TheConstants.{SUM, MXR}
 use Rattle.cx_map.specs.declared.TheConstants.{PAGE_SIZE}
-use Rattle.cx_walk.specs.declared.entry.TheConstants.{PTE_V, PTE_R, PTE_W, PTE_X, PTE_U, PTE_A, PTE_D, PTE_PPN, PTE_SIZE, MEGAPAGE_PAGES, MEGAPAGE_SIZE}
+use Rattle.cx_walk.specs.declared.entry.TheConstants.{PTE_V, PTE_R, PTE_W, PTE_X, PTE_U, PTE_A, PTE_D, PTE_PPN}
+use Rattle.cx_walk.specs.declared.entry.TheConstants.{PTE_SIZE, MEGAPAGE_PAGES, MEGAPAGE_SIZE}
 
 -- the page number that an entry holds
 abbrev pub page_number : ℕ → ℕ
@@ -31,8 +32,9 @@ is_valid entry = is_set entry PTE_V && (is_set entry PTE_R || not (is_set entry 
 abbrev pub is_leaf : ℕ → Bool
 is_leaf entry = is_set entry PTE_R || is_set entry PTE_X
 
--- Step 4: a valid entry that is no leaf points to the next table. A, D and U are reserved there, and software has to leave
--- them 0 (section 4.3.1). That an entry with one of them is no pointer, and so a page fault, is this hart's own choice.
+-- Step 4: a valid entry that is no leaf points to the next table. A, D and U are reserved there, and software has to
+-- leave them 0 (section 4.3.1). That an entry with one of them is no pointer, and so a page fault, is this hart's own
+-- choice.
 abbrev pub is_pointer : ℕ → Bool
 is_pointer entry =
     is_valid entry && not (is_leaf entry) && not (is_set entry PTE_A || is_set entry PTE_D || is_set entry PTE_U)
@@ -62,8 +64,8 @@ abbrev pub is_aligned_leaf : Size → ℕ → Bool
 is_aligned_leaf Page entry = true
 is_aligned_leaf Megapage entry = page_number entry % MEGAPAGE_PAGES == 0
 
--- Step 7: A is set, and D where the access writes. Of the two ways that the step leaves open, this hart faults, and sets
--- neither.
+-- Step 7: A is set, and D where the access writes. Of the two ways that the step leaves open, this hart faults, and
+-- sets neither.
 abbrev pub is_marked : Kind → ℕ → Bool
 is_marked kind entry = is_set entry PTE_A && (not (is_write kind) || is_set entry PTE_D)
 

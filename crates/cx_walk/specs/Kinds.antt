@@ -3,7 +3,8 @@
 use Rattle.std.specs.Prelude.{◌≡◌, ◌⊎◌, ℕ, Bool, true, false}
 use Rattle.cx_walk.specs.declared.kind.Kind.{Kind}
 use Rattle.cx_walk.specs.declared.kind.Kind.TheVariants.{Fetch, Load, Store, Reserve, Atomic}
-use Rattle.cx_csr.specs.declared.causes.TheConstants.{INSTRUCTION_ACCESS_FAULT, LOAD_ACCESS_FAULT, STORE_ACCESS_FAULT, INSTRUCTION_PAGE_FAULT, LOAD_PAGE_FAULT, STORE_PAGE_FAULT}
+use Rattle.cx_csr.specs.declared.causes.TheConstants.{INSTRUCTION_ACCESS_FAULT, LOAD_ACCESS_FAULT, STORE_ACCESS_FAULT}
+use Rattle.cx_csr.specs.declared.causes.TheConstants.{INSTRUCTION_PAGE_FAULT, LOAD_PAGE_FAULT, STORE_PAGE_FAULT}
 
 abbrev pub access_fault : Kind → ℕ
 access_fault Fetch = INSTRUCTION_ACCESS_FAULT

@@ -1,6 +1,7 @@
 -- What an access to memory comes to: the walk of the page table of Sv32 (Privileged 1.12, section 4.3.2; the numbers of
 -- its steps stand at the lines), and the place of the address that it gives.
-use Rattle.std.specs.Prelude.{◌≡◌, ℕ, ◌%◌, ◌⊎◌, IsSome, Bool, false, ◌&&◌, ◌==◌, if◌then◌else◌, is_some, [], ◌∷◌, Option, None, Some, Result, Ok, Err}
+use Rattle.std.specs.Prelude.{◌≡◌, ℕ, ◌%◌, ◌⊎◌, IsSome, Bool, false, ◌&&◌, ◌==◌, if◌then◌else◌, is_some, [], ◌∷◌}
+use Rattle.std.specs.Prelude.{Option, None, Some, Result, Ok, Err}
 use Rattle.std.specs.Result.{result_ok}
 use Rattle.cx_csr.specs.Rules.{is_in_ram}
 use Rattle.cx_csr.specs.declared.state.State.{State}
@@ -30,7 +31,8 @@ is_for_devices Atomic len = false
 unfoldable pub place_at : ℕ → Kind → ℕ → ℕ → Result Place ℕ
 place_at pages kind len address =
     if is_in_ram (size_of_pages pages) address len then Ok (Ram address)
-    else (if is_for_devices kind len && is_some (device_at address) then Ok (Device address) else Err (access_fault kind))
+    else (if is_for_devices kind len && is_some (device_at address) then Ok (Device address) else Err
+    (access_fault kind))
 
 -- the same of the address that a walk gave, or of the cause that it gave instead
 abbrev pub walk_answer : ℕ → Kind → ℕ → Result ℕ ℕ → Result Place ℕ
@@ -43,8 +45,8 @@ unfoldable pub address_through : State → Kind → ℕ → Size → ℕ → Res
 address_through s kind va size entry =
     if is_open s kind size entry then Ok (physical_address size entry va) else Err (page_fault kind)
 
--- Steps 2 to 8 from the level-0 entry on. That an entry outside memory is an access fault (step 2) is this machine's own
--- choice of which addresses a walk may read: those of RAM.
+-- Steps 2 to 8 from the level-0 entry on. That an entry outside memory is an access fault (step 2) is this machine's
+-- own choice of which addresses a walk may read: those of RAM.
 abbrev pub from_second : State → Kind → ℕ → ℕ → ℕ → Option ℕ → Trail
 from_second s kind va first second None =
     record { count = 1; places = first ∷ 0 ∷ []; outcome = Err (access_fault kind) }

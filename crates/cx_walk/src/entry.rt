@@ -1,7 +1,8 @@
 //! The entries of a page table.
 
 ghost use Rattle.std.specs.Prelude.{◌≡◌};
-ghost use Rattle.cx_walk.specs.Entry.{first_place, is_aligned_leaf, is_leaf, is_marked, is_open, is_permitted, is_pointer, is_reached, is_valid, page_number, physical_address, second_place};
+ghost use Rattle.cx_walk.specs.Entry.{first_place, is_aligned_leaf, is_leaf, is_marked, is_open, is_permitted};
+ghost use Rattle.cx_walk.specs.Entry.{is_pointer, is_reached, is_valid, page_number, physical_address, second_place};
 
 use crate::kind::Kind;
 use crate::mode::effective_mode;

@@ -12,8 +12,8 @@ ghost use Rattle.cx_walk.specs.Walks.{IsFound, address_of, walk_of};
 
 use cx_map::{PAGE_SIZE, RAM_START};
 
-/// A walk depends on no word of memory but those at its places: two views that agree there give the same walk, where the
-/// second has no byte that the first lacks.
+/// A walk depends on no word of memory but those at its places: two views that agree there give the same walk, where
+/// the second has no byte that the first lacks.
 pub fn a_walk_reads_only_its_places()
     ensures { (first second : ℕ → Option ℕ) (pages : ℕ) (s : State) (kind : Kind) (va len : ℕ)
         → AgreesOn first second (walk_of (word_in first) pages s kind va len)
@@ -46,8 +46,8 @@ pub fn an_answer_stands_at_the_address()
         → IfOk (walk_of word pages s kind va len).answer (IsFound pages kind len) }
 {}
 
-/// The address of an answer has the virtual address's offset in its page, and a fault is the access fault or the page fault
-/// of the kind of access.
+/// The address of an answer has the virtual address's offset in its page, and a fault is the access fault or the page
+/// fault of the kind of access.
 pub fn an_outcome_is_of_its_access()
     ensures offset { (word : ℕ → Option ℕ) (pages : ℕ) (s : State) (kind : Kind) (va len : ℕ)
         → IfOk (walk_of word pages s kind va len).answer (λ place. address_of place % PAGE_SIZE ≡ va % PAGE_SIZE) }

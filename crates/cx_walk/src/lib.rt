@@ -1,8 +1,8 @@
 //! Translation of addresses by Sv32 (RISC-V Privileged Architecture 1.12, section 4.3), over any view of memory.
 //!
 //! `translate` gives the whole walk of an access: the entries of the page table that it read, the physical address, and
-//! what stands there, be it RAM, a word of the devices or the cause of a fault. `Words` is a view of memory; `DeviceWord`
-//! lists the words of the devices. The laws say that a walk depends on no word but those that it lists.
+//! what stands there, be it RAM, a word of the devices or the cause of a fault. `Words` is a view of memory;
+//! `DeviceWord` lists the words of the devices. The laws say that a walk depends on no word but those that it lists.
 #![tactic(auto)]
 
 mod device;

@@ -20,8 +20,8 @@ pub(crate) fn effective_mode(state: &State, kind: Kind) -> u8
     state.mode
 }
 
-/// Whether an access of this kind isn't translated in this state, so that its physical address is its virtual one: its mode
-/// is machine mode, or MODE of `satp` is 0 (Privileged 1.12, section 4.1.11).
+/// Whether an access of this kind isn't translated in this state, so that its physical address is its virtual one: its
+/// mode is machine mode, or MODE of `satp` is 0 (Privileged 1.12, section 4.1.11).
 #[inline]
 pub fn is_bare(state: &State, kind: Kind) -> bool
     ensures { result ≡ is_bare state.now kind }

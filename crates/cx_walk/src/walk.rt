@@ -4,7 +4,8 @@ ghost use Rattle.std.specs.Prelude.{◌≡◌, ◌%◌, ◌⊎◌, ◌≤◌, []
 ghost use Rattle.cx_csr.specs.Rules.{is_in_ram};
 ghost use Rattle.cx_map.specs.Map.{size_of_pages};
 ghost use Rattle.cx_walk.specs.Bytes.{word_in};
-ghost use Rattle.cx_walk.specs.Walks.{IsFound, address_of, address_through, is_for_devices, place_at, trail_of, walk_of, walk_to};
+ghost use Rattle.cx_walk.specs.Walks.{IsFound, address_of, address_through, is_for_devices, place_at, trail_of};
+ghost use Rattle.cx_walk.specs.Walks.{walk_of, walk_to};
 
 use crate::device::DeviceWord;
 use crate::entry::{Entry, Size};
@@ -96,8 +97,8 @@ impl Trail {
 
 /// Translates the virtual address of an access of `len` bytes, which divides it, and tells what stands at the physical
 /// one. The cause is a page fault where an entry of the table is invalid, is no leaf where it has to be, or doesn't let
-/// the access through; it is an access fault where an entry isn't in memory, or where the bytes of the access are neither
-/// in RAM nor a word of the devices that it reaches.
+/// the access through; it is an access fault where an entry isn't in memory, or where the bytes of the access are
+/// neither in RAM nor a word of the devices that it reaches.
 #[tactic(auto, unfolding(crate::specs::Walks::walk_of))]
 #[inline]
 pub fn translate<V: Words>(view: &V, state: &State, kind: Kind, va: u32, len: u8) -> Walk

@@ -1,5 +1,7 @@
 -- What was kept of a whole run is the window.
-use Rattle.std.proofs.Common.{nat_le, nat_lt, ◌≡◌, ℕ, ◌-◌, ◌<◌, ◌≤◌, ◌&&◌, Bool, true, false, List, [], length, drop, Option, None, Some, IsSome, IfSome, Ok, arith, refl, ap, sym, subst, ◌∙◌}
+use Rattle.std.proofs.Common.{nat_le, nat_lt, ◌≡◌, ℕ, ◌+◌, ◌-◌, ◌<◌, ◌≤◌, ◌&&◌, min, Bool, true, false, []}
+use Rattle.std.proofs.Common.{length}
+use Rattle.std.proofs.Common.{drop, Option, None, Some, IsSome, IfSome, Ok, arith, refl, ap, sym, subst, ◌∙◌}
 use Rattle.std.proofs.lemmas.Bool.{leb-true, ltb-true}
 use Rattle.std.proofs.lemmas.List.{length-replicate}
 use Rattle.cx_csr.specs.declared.state.State.{State}
@@ -8,20 +10,21 @@ use Rattle.cx_hart.specs.Reads.{read_indices}
 use Rattle.cx_hart.specs.declared.record.StepRec.{StepRec}
 use Rattle.cx_hart.proofs.SameStep.{is_framed}
 use Rattle.cx_hart.proofs.StepKeeps.{keeps_machine}
-use Rattle.cx_log.specs.Order.{IsHeader, KeepsRules}
+use Rattle.cx_hart.proofs.StepSizes.{sets_lines}
+use Rattle.cx_log.specs.Order.{InOrder, at_start}
+use Rattle.cx_log.specs.Reading.{Opened}
 use Rattle.cx_log.specs.Recording.{Recording}
+use Rattle.cx_log.specs.Scan.{Scan, decoded}
 use Rattle.cx_log.specs.declared.header.Header.{Header}
-use Rattle.cx_machine.specs.Machine.{MachineState}
-use Rattle.cx_run.specs.Run.{Run, run_of}
-use Rattle.cx_run.specs.Window.{IsWindow, is_read, kept_pages, window_from}
+use Rattle.cx_run.specs.Run.{Accepts, Run, run_of}
+use Rattle.cx_run.specs.Window.{IsWindow, events_between, has_window, is_read, kept_pages, window_from}
+use Rattle.cx_run.proofs.Accepted.{window_is_accepted}
 use Rattle.cx_run.proofs.KeptPages.{kept_pages-agree}
-use Rattle.cx_run.proofs.Accepted.{eventless_window_is_accepted, run_keeps_machine}
 use Rattle.cx_run.proofs.Runs.{length-records, run_of-begins}
-use Rattle.cx_window.specs.Cut.{CutsOff, RunsThrough, StartsWith, without_events}
-use Rattle.cx_window.specs.Slice.{IsWhole, Sliced, is_marked, option_slice_of, slice_of, written_of}
-use Rattle.cx_window.specs.Slicing.{IsKeptOf, SameWindow, Slices, Slicing, nothing_kept}
+use Rattle.cx_window.specs.Cut.{Cuts, HasEnded, HasNone, IsJudged}
+use Rattle.cx_window.specs.Slice.{Finishes, Sliced, is_marked, slice_of, written_of}
+use Rattle.cx_window.specs.Slicing.{IsFit, IsKeptOf, SameWindow, Slices, Slicing, nothing_kept}
 use Rattle.cx_window.proofs.RunSlices.{slices_nothing, window_marks}
-use Rattle.cx_window.proofs.Running.{carried_all}
 
 -- the header is that of the recording
 pub record IsHeaderOf (R : Recording) (header : Header) : Type 0 where
@@ -30,152 +33,164 @@ pub record IsHeaderOf (R : Recording) (header : Header) : Type 0 where
   pub pages : header.pages ≡ R.pages
   pub base : header.base ≡ R.base
 
-same_window : (R : Recording) (header : Header) (s : Slicing) (start : State) (before after : Run StepRec) → IsHeaderOf R header → R.events ≡ []
+same_window : (R : Recording) (header : Header) (s : Slicing) (start : State) (before after : Run StepRec)
+    → IsHeaderOf R header → s.events ≡ events_between s.from s.to R.events
     → start ≡ before.machine.state → s.memory ≡ before.machine.memory
     → ((k : ℕ) → k < R.pages → is_marked s.marks k ≡ is_read read_indices (drop (s.from - R.base) after.records) k)
     → written_of (slice_of header s start) ≡ window_from read_indices R s.from s.to before after
-same_window R header s start before after is plain state memory marks =
-    let kept : kept_pages (is_marked s.marks) s.memory R.pages ≡ kept_pages (is_read read_indices (drop (s.from - R.base) after.records)) before.machine.memory R.pages =
-    kept_pages-agree (is_marked s.marks) (is_read read_indices (drop (s.from - R.base) after.records)) s.memory before.machine.memory R.pages marks (λ k below read. rw memory refl) in
-    rw (is.version, is.split, is.pages, state, kept, plain) refl
+same_window R header s start before after is events state memory marks =
+    let kept : kept_pages (is_marked s.marks) s.memory R.pages ≡ kept_pages
+    (is_read read_indices (drop (s.from - R.base) after.records)) before.machine.memory R.pages =
+    kept_pages-agree (is_marked s.marks) (is_read read_indices (drop (s.from - R.base) after.records)) s.memory
+    before.machine.memory R.pages marks (λ k below read. rw memory refl) in
+    rw (is.version, is.split, is.pages, state, kept, events) refl
 
-pub slices_window : (R : Recording) (header : Header) (given : List StepRec) (s : Slicing) (start : State) (run : Run StepRec) → IsHeaderOf R header → R.events ≡ []
-    → Slices R given s → s.start ≡ Some start → length s.marks ≡ R.pages → R.base ≤ s.from → s.from < s.to → s.to ≤ R.end
-    → run_of (hart_step R.split) R (R.end - R.base) ≡ Some run → run.records ≡ given
+-- A run of the recording's steps that was shown whole, and the window that was kept of it.
+pub record HasKept (R : Recording) (header : Header) (s : Slicing) : Type 0 where
+  pub accepted : Accepts (hart_step R.split) R
+  pub header_is : IsHeaderOf R header
+  pub run : Run StepRec
+  pub whole : run_of (hart_step R.split) R (R.end - R.base) ≡ Some run
+  pub slices : Slices R run.records s
+  pub size : length s.marks ≡ R.pages
+  pub above : R.base ≤ s.from
+  pub some : s.from < s.to
+  pub to : s.to ≤ R.end
+
+counted : (R : Recording) (header : Header) (s : Slicing) → (kept : HasKept R header s)
+    → length kept.run.records ≡ R.end - R.base
+counted R header s kept = length-records (hart_step R.split) R (R.end - R.base) kept.run kept.whole
+
+pub there_of : (R : Recording) (header : Header) (s : Slicing) → HasKept R header s → IsSome s.start
+there_of R header s kept =
+    kept.slices.there kept.above (omega (arith, counted R header s kept, kept.above, kept.some, kept.to))
+
+pub slices_window : (R : Recording) (header : Header) (s : Slicing) (start : State) → HasKept R header s
+    → s.start ≡ Some start
     → IsWindow (hart_step R.split) read_indices R s.from s.to (written_of (slice_of header s start))
-slices_window R header given s start run is plain so_far started size above some to up_to records =
-    let kept : IsKeptOf R s (Some start) = subst (λ (o : Option State). IsKeptOf R s o) started (so_far.kept above) in
-    let after = run_of-begins (hart_step R.split) R (s.to - R.base) (R.end - R.base) run (omega arith) up_to in
-    let count : length after.run.records ≡ s.to - R.base = length-records (hart_step R.split) R (s.to - R.base) after.run after.is in
+slices_window R header s start k started =
+    let kept : IsKeptOf R s (Some start) = subst (λ (o : Option State). IsKeptOf R s o) started (k.slices.kept k.above)
+    in
+    let after = run_of-begins (hart_step R.split) R (s.to - R.base) (R.end - R.base) k.run (omega (arith, k.to)) k.whole
+    in
+    let count : length after.run.records ≡ s.to - R.base = length-records (hart_step R.split) R (s.to - R.base)
+    after.run after.is in
+    let all = counted R header s k in
+    let last : min s.to (R.base + length k.run.records) ≡ s.to = omega (arith, all, k.above, k.some, k.to) in
+    let events : s.events ≡ events_between s.from s.to R.events = k.slices.events k.above k.accepted.rules.events
+    ∙ ap (λ n. events_between s.from n R.events) last in
     record {
-      from = above;
-      some = some;
-      to = to;
+      from = k.above;
+      some = k.some;
+      to = k.to;
       before = kept.0;
       up_to_a = kept.1.0;
       after = after.run;
       up_to_b = after.is;
-      is = same_window R header s start kept.0 after.run is plain kept.1.1.0 kept.1.1.1 (λ k below. window_marks R given s after.run after.rest k so_far above (omega arith) (omega arith) (sym records ∙ after.records) count);
+      is = same_window R header s start kept.0 after.run k.header_is events kept.1.1.0 kept.1.1.1
+          (λ n below. window_marks R k.run.records s after.run after.rest n k.slices k.above
+          (omega (arith, k.some)) (omega (arith, below, k.size)) after.records count);
     }
 
--- ---- what is ready to be written
+-- its events are in order
+pub window_order : (R : Recording) (header : Header) (s : Slicing) (start : State) → HasKept R header s
+    → s.start ≡ Some start → InOrder header.pages (at_start s.from start) s.events s.to
+window_order R header s start kept started =
+    let window = slices_window R header s start kept started in
+    let accepted = window_is_accepted (hart_step R.split) read_indices R (written_of (slice_of header s start)) s.from
+    s.to (is_framed R.split) (keeps_machine R.split) (sets_lines R.split) kept.accepted.rules window in
+    accepted.rules.events
 
--- Of a run that went through, whose window's steps are there, the machine before the window's first step is there.
-pub there_of : (R : Recording) (s : Slicing) → RunsThrough R s → R.base ≤ s.from → s.from < s.to → s.to ≤ R.end → IsSome s.start
-there_of R s through above some to =
-    let count : length through.run.records ≡ R.end - R.base = length-records (hart_step R.split) R (R.end - R.base) through.run through.whole in
-    through.slices.there above (omega (arith, count))
+-- ---- a slicer that was shown a replay to its end
 
--- The slice is the window, and whole.
-pub record IsSliceOf (R : Recording) (header : Header) (s : Slicing) (start : State) : Type 0 where
-  pub window : IsWindow (hart_step R.split) read_indices R s.from s.to (written_of (slice_of header s start))
-  pub whole : IsWhole (slice_of header s start)
+pub nothing_shown : (R : Recording) (pages from to : ℕ) (first : Slicing) → first ≡ nothing_kept pages from to
+    → Slices R [] first
+nothing_shown R pages from to first nothing = rw nothing (slices_nothing R pages from to)
 
-pub slice_is_window : (header : Header) (memory : List ℕ) (end : ℕ) (s : Slicing) (start : State) → IsHeader header → KeepsRules (without_events header memory end)
-    → RunsThrough (without_events header memory end) s → s.start ≡ Some start → length s.marks ≡ header.pages → header.base ≤ s.from → s.from < s.to → s.to ≤ end
-    → IsSliceOf (without_events header memory end) header s start
-slice_is_window header memory end s start is rules through started size above some to =
-    let R : Recording = without_events header memory end in
-    let window = slices_window R header through.run.records s start through.run (record { version = refl; split = refl; pages = refl; base = refl }) refl through.slices started size above some to through.whole refl in
-    let accepted = eventless_window_is_accepted (hart_step R.split) read_indices R (written_of (slice_of header s start)) s.from s.to (is_framed R.split) (keeps_machine R.split) rules refl window in
-    let kept : IsKeptOf R s (Some start) = subst (λ (o : Option State). IsKeptOf R s o) started (through.slices.kept above) in
-    record {
-      window = window;
-      whole = record {
-        header = record { version = is.version; pages = is.pages; base = accepted.rules.base; start = accepted.rules.start; count = is.count };
-        memory = ap length kept.1.1.1 ∙ (run_keeps_machine (hart_step R.split) R (s.from - R.base) kept.0 (keeps_machine R.split) rules kept.1.0).memory.size;
-        marks = size;
-        to = accepted.rules.events;
-      };
-    }
+pub nothing_fits : (pages from to : ℕ) (first : Slicing) → first ≡ nothing_kept pages from to → IsFit pages first
+nothing_fits pages from to first nothing = rw nothing (record {
+  marks = length-replicate pages false;
+  start = tt;
+  memory = tt;
+})
 
 -- the steps lie in the run
-lies : (a b c : Bool) → true ≡ (a && b && c) → (a ≡ true) × ((b ≡ true) × (c ≡ true))
+lies : (a b c : Bool) → (a && b && c) ≡ true → (a ≡ true) × ((b ≡ true) × (c ≡ true))
 lies true true true e = (refl, (refl, refl))
 lies true true false e = cc
 lies true false c e = cc
 lies false b c e = cc
 
--- What was kept of a run that went through, as far as it is there.
-pub record HasKept (header : Header) (memory : List ℕ) (end : ℕ) (s : Slicing) : Type 0 where
-  pub header_is : IsHeader header
-  pub rules : KeepsRules (without_events header memory end)
-  pub through : RunsThrough (without_events header memory end) s
-  pub size : length s.marks ≡ header.pages
-  pub above : header.base ≤ s.from
-  pub some : s.from < s.to
-  pub to : s.to ≤ end
-
-pub whole_if : (header : Header) (memory : List ℕ) (end : ℕ) (s : Slicing) → HasKept header memory end s → IfSome s.start (λ start. IsWhole (slice_of header s start))
-whole_if header memory end s kept = by_start s.start refl
-  where
-    by_start : (o : Option State) → s.start ≡ o → IfSome o (λ start. IsWhole (slice_of header s start))
-    by_start None is = tt
-    by_start (Some start) is = (slice_is_window header memory end s start kept.header_is kept.rules kept.through is kept.size kept.above kept.some kept.to).whole
-
-not_there : (o : Option State) → o ≡ None → IsSome o → ⊥
-not_there None is some = cc
-not_there (Some start) is some = cc
-
-pub cuts_off : (header : Header) (memory : List ℕ) (end : ℕ) (s : Slicing) → HasKept header memory end s
-    → CutsOff (without_events header memory end) s.from s.to (Ok (option_slice_of header s s.start))
-cuts_off header memory end s kept = by_start s.start refl
-  where
-    by_start : (o : Option State) → s.start ≡ o → CutsOff (without_events header memory end) s.from s.to (Ok (option_slice_of header s o))
-    by_start None is = absurd (not_there s.start is (there_of (without_events header memory end) s kept.through kept.above kept.some kept.to))
-    by_start (Some start) is = (
-      carried_all (without_events header memory end) s kept.through,
-      (slice_is_window header memory end s start kept.header_is kept.rules kept.through is kept.size kept.above kept.some kept.to).window,
-    )
-
--- They are those of a slicer that was shown the whole run.
-pub record KeptWindow (header : Header) (memory : List ℕ) (end from to : ℕ) (s : Slicing) : Type 0 where
-  pub kept : HasKept header memory end s
-  pub from_is : s.from ≡ from
-  pub to_is : s.to ≡ to
-
-pub kept_window : (header : Header) (memory : List ℕ) (end from to : ℕ) (first s : Slicing) → IsHeader header → KeepsRules (without_events header memory end)
-    → RunsThrough (without_events header memory end) s → first ≡ nothing_kept header.pages from to → SameWindow first s
-    → true ≡ (nat_le header.base from && nat_lt from to && nat_le to end) → KeptWindow header memory end from to s
-kept_window header memory end from to first s is rules through nothing same there =
-    let parts = lies (nat_le header.base from) (nat_lt from to) (nat_le to end) there in
+-- what was kept of a window that is there
+pub kept_of : (o : Opened) (whole : Scan) (at from to : ℕ) (header : Header) (first s : Slicing) → o.header ≡ header
+    → IsJudged o whole → HasEnded o whole at s → first ≡ nothing_kept header.pages from to → SameWindow first s
+    → has_window (decoded o whole) from to ≡ true → HasKept (decoded o whole) header s
+kept_of o whole at from to header first s is judged ended nothing same there =
+    let R : Recording = decoded o whole in
+    let gave = ended.gave in
+    let parts = lies (nat_le R.base from) (nat_lt from to) (nat_le to R.end) there in
     let from_is : s.from ≡ from = same.from ∙ ap (λ (x : Slicing). x.from) nothing in
     let to_is : s.to ≡ to = same.to ∙ ap (λ (x : Slicing). x.to) nothing in
-    let base : header.base ≤ from = leb-true header.base from parts.0 in
+    let base : R.base ≤ from = leb-true R.base from parts.0 in
     let some : from < to = ltb-true from to parts.1.0 in
-    let below : to ≤ end = leb-true to end parts.1.1 in
+    let below : to ≤ R.end = leb-true to R.end parts.1.1 in
+    let count : length gave.given ≡ R.end - R.base = omega (arith, gave.all) in
     record {
-      kept = record {
-        header_is = is;
-        rules = rules;
-        through = through;
-        size = same.size ∙ ap (λ (x : Slicing). length x.marks) nothing ∙ length-replicate header.pages false;
-        above = omega (arith, base, from_is);
-        some = omega (arith, some, from_is, to_is);
-        to = omega (arith, below, to_is);
+      accepted = judged ended.good;
+      header_is = record {
+        version = ap (λ (h : Header). h.version) (sym is);
+        split = ap (λ (h : Header). h.split) (sym is);
+        pages = ap (λ (h : Header). h.pages) (sym is);
+        base = ap (λ (h : Header). h.base) (sym is);
       };
-      from_is = from_is;
-      to_is = to_is;
+      run = record { machine = gave.machine; records = gave.given };
+      whole = rw (← count) gave.run;
+      slices = gave.slices;
+      size = same.size ∙ ap (λ (x : Slicing). length x.marks) nothing ∙ length-replicate header.pages false
+          ∙ ap (λ (h : Header). h.pages) (sym is);
+      above = omega (arith, base, from_is);
+      some = omega (arith, some, from_is, to_is);
+      to = omega (arith, below, to_is);
     }
 
--- where the run of such a recording starts
-pub starts_with : (header : Header) (m : MachineState) (end : ℕ) (split : Bool) → m.state ≡ header.start → split ≡ header.split
-    → StartsWith (without_events header m.memory end) m split
-starts_with header m end split state same = record {
-  machine_is = ap (λ (s : State). record { state = s; memory = m.memory }) state;
-  split_is = same;
-  events = refl;
+-- a slice that was finished is the window, and there is one
+pub finishes_window : (o : Opened) (whole : Scan) (at from to end : ℕ) (may cut : Type 0) (header : Header)
+    (first s : Slicing) (result : Option Sliced) → o.header ≡ header
+    → IsJudged o whole → (may → HasEnded o whole at s) → first ≡ nothing_kept header.pages from to → SameWindow first s
+    → (may → has_window (decoded o whole) from to ≡ true) → Finishes header s result
+    → Cuts o whole from to end may cut (Ok result)
+finishes_window o whole at from to end may cut header first s None is judged ended nothing same there none =
+    λ h. absurd (never h)
+  where
+    by_start : HasKept (decoded o whole) header s → (x : Option State) → s.start ≡ x
+        → IfSome x (λ start. InOrder header.pages (at_start s.from start) s.events s.to → ⊥) → IsSome x → ⊥
+    by_start kept None started none some = cc
+    by_start kept (Some start) started none some = none (window_order (decoded o whole) header s start kept started)
+
+    never : may → ⊥
+    never h =
+        let kept = kept_of o whole at from to header first s is judged (ended h) nothing same (there h) in
+        by_start kept s.start refl none (there_of (decoded o whole) header s kept)
+finishes_window o whole at from to end may cut header first s (Some slice) is judged ended nothing same there found =
+    λ h. (let kept = kept_of o whole at from to header first s is judged (ended h) nothing same (there h) in
+    let from_is : s.from ≡ from = same.from ∙ ap (λ (x : Slicing). x.from) nothing in
+    let to_is : s.to ≡ to = same.to ∙ ap (λ (x : Slicing). x.to) nothing in
+    let window = slices_window (decoded o whole) header s found.0 kept found.1.0 in
+    record {
+      good = (ended h).good;
+      window = rw (found.1.1, ← from_is, ← to_is) window;
+    })
+
+-- the window isn't there
+pub lacks_window : (o : Opened) (whole : Scan) (at from to : ℕ) (header : Header) (s : Slicing) → o.header ≡ header
+    → HasEnded o whole at s → (nat_le header.base from && nat_lt from to && nat_le to at) ≡ false
+    → HasNone o whole from to
+lacks_window o whole at from to header s is ended out = record {
+  good = ended.good;
+  lacks = rw (ap (λ (h : Header). h.base) is, ← ended.gave.ends) out;
 }
 
-pub nothing_shown : (R : Recording) (pages from to : ℕ) (first : Slicing) → first ≡ nothing_kept pages from to → Slices R [] first
-nothing_shown R pages from to first nothing = rw nothing (slices_nothing R pages from to)
-
-pub cuts_window : (header : Header) (memory : List ℕ) (end from to : ℕ) (s : Slicing) (result : Option Sliced) → KeptWindow header memory end from to s
-    → result ≡ option_slice_of header s s.start → CutsOff (without_events header memory end) from to (Ok result)
-cuts_window header memory end from to s result window finished =
-    let R : Recording = without_events header memory end in
-    let first : CutsOff R from s.to (Ok (option_slice_of header s s.start)) =
-    subst (λ (a : ℕ). CutsOff R a s.to (Ok (option_slice_of header s s.start))) window.from_is (cuts_off header memory end s window.kept) in
-    let both : CutsOff R from to (Ok (option_slice_of header s s.start)) =
-    subst (λ (b : ℕ). CutsOff R from b (Ok (option_slice_of header s s.start))) window.to_is first in
-    subst (λ (o : Option Sliced). CutsOff R from to (Ok o)) (sym finished) both
+pub has_it : (o : Opened) (whole : Scan) (at from to : ℕ) (header : Header) (s : Slicing) → o.header ≡ header
+    → HasEnded o whole at s → (nat_le header.base from && nat_lt from to && nat_le to at) ≡ true
+    → has_window (decoded o whole) from to ≡ true
+has_it o whole at from to header s is ended out = rw (ap (λ (h : Header). h.base) is, ← ended.gave.ends) out

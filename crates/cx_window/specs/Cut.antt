@@ -1,61 +1,72 @@
--- What cutting a window from a run gives.
-use Rattle.std.specs.Prelude.{◌≡◌, ◌≢◌, ℕ, ◌+◌, ◌-◌, List, [], Bool, false, Option, None, Some, Result, Ok, Err}
+-- What cutting a window from a replay gives.
+use Rattle.std.specs.Prelude.{◌≡◌, ℕ, List, length, Bool, true, false, Option, None, Some, Result}
+use Rattle.std.specs.Prelude.{Ok}
+use Rattle.std.specs.Prelude.{Err}
 use Rattle.cx_hart.specs.HartStep.{hart_step}
 use Rattle.cx_hart.specs.Reads.{read_indices}
 use Rattle.cx_hart.specs.declared.record.StepRec.{StepRec}
-use Rattle.cx_log.specs.Recording.{Recording}
-use Rattle.cx_log.specs.declared.header.Header.{Header}
+use Rattle.cx_log.specs.Reading.{Opened}
+use Rattle.cx_log.specs.Scan.{Scan, decoded}
 use Rattle.cx_machine.specs.Machine.{MachineState}
-use Rattle.cx_run.specs.FirstBad.{carried}
-use Rattle.cx_run.specs.Run.{Run, run_of}
+use Rattle.cx_replay.specs.Replaying.{GaveAll, IsGoodUpTo}
+use Rattle.cx_replay.specs.declared.fault.ReplayFault.{ReplayFault}
+use Rattle.cx_replay.specs.declared.fault.ReplayFault.TheVariants as fault
+use Rattle.cx_run.specs.FirstBad.{Broken, Format, bad_behind}
+use Rattle.cx_run.specs.Run.{Accepts, run_of}
 use Rattle.cx_run.specs.Window.{IsWindow, has_window}
 use Rattle.cx_window.specs.Slice.{Sliced, written_of}
 use Rattle.cx_window.specs.Slicing.{Slices, Slicing}
-use Rattle.cx_window.specs.declared.fault.CutFault.{CutFault}
-use Rattle.cx_window.specs.declared.fault.CutFault.TheVariants.{Broken, NoMemory}
 
--- the recording without events that has this header, this memory and this end
-abbrev pub without_events : Header → List ℕ → ℕ → Recording
-without_events header memory end = record {
-  version = header.version;
-  split = header.split;
-  pages = header.pages;
-  base = header.base;
-  start = header.start;
-  memory = memory;
-  events = [];
-  end = end;
-}
+-- where nothing is bad, the recording is accepted
+abbrev pub IsJudged : Opened → Scan → Type 0
+IsJudged o whole = bad_behind hart_step o whole ≡ None → Accepts (hart_step o.header.split) (decoded o whole)
 
--- why a run stopped: memory, or the first step that isn't carried out
-abbrev pub StopsFor : Recording → CutFault → Type 0
-StopsFor R NoMemory = Unit {0}
-StopsFor R (Broken n) = (n ≡ R.base + carried hart_step R) × (carried hart_step R ≢ R.end - R.base)
+-- All steps of the recording were given, and this is kept of it; the next step is its end.
+pub record HasGiven (o : Opened) (whole : Scan) (at : ℕ) (kept : Slicing) : Type 0 where
+  pub given : List StepRec
+  pub machine : MachineState
+  pub run : run_of (hart_step o.header.split) (decoded o whole) (length given)
+      ≡ Some (record { machine = machine; records = given })
+  pub all : GaveAll o whole given
+  pub ends : at ≡ whole.upto
+  pub slices : Slices (decoded o whole) given kept
 
--- The window where its steps are there, and nothing where they aren't; all steps were carried out.
-abbrev pub CutsOff : Recording → ℕ → ℕ → Result (Option Sliced) CutFault → Type 0
-CutsOff R a b (Ok None) = (carried hart_step R ≡ R.end - R.base) × (has_window R a b ≡ false)
-CutsOff R a b (Ok (Some slice)) = (carried hart_step R ≡ R.end - R.base) × IsWindow (hart_step R.split) read_indices R a b (written_of slice)
-CutsOff R a b (Err fault) = StopsFor R fault
+-- Nothing is bad, and all steps were given.
+pub record HasEnded (o : Opened) (whole : Scan) (at : ℕ) (kept : Slicing) : Type 0 where
+  pub good : bad_behind hart_step o whole ≡ None
+  pub gave : HasGiven o whole at kept
 
--- a recording without events that begins with this machine
-pub record StartsWith (R : Recording) (machine : MachineState) (split : Bool) : Type 0 where
-  pub machine_is : machine ≡ record { state = R.start; memory = R.memory }
-  pub split_is : split ≡ R.split
-  pub events : R.events ≡ []
+-- what a fault says of the first bad place of an input that ends at an offset
+abbrev pub StopsFor : Opened → Scan → ℕ → (may cut : Type 0) → ReplayFault → Type 0
+StopsFor o whole end may cut (fault.Format f) = may → bad_behind hart_step o whole ≡ Some (Format f)
+StopsFor o whole end may cut (fault.Broken n) = bad_behind hart_step o whole ≡ Some (Broken n)
+StopsFor o whole end may cut fault.ReadFault = cut → IsGoodUpTo end (bad_behind hart_step o whole)
+StopsFor o whole end may cut fault.NoMemory = Unit {0}
 
--- The run of so many steps stands at this machine, and this is kept of it.
-pub record HasRun (R : Recording) (n : ℕ) (machine : MachineState) (kept : Slicing) : Type 0 where
-  pub records : List StepRec
-  pub run : run_of (hart_step R.split) R n ≡ Some (record { machine = machine; records = records })
-  pub slices : Slices R records kept
+-- The slicer was shown so many steps as a replay stands behind, or all of them.
+abbrev pub IsShown : Opened → Scan → ℕ → Slicing → (Stood : List StepRec → Type 0) → (may : Type 0) → Bool → Type 0
+IsShown o whole at kept Stood may true = (given : List StepRec) × (Stood given × Slices (decoded o whole) given kept)
+IsShown o whole at kept Stood may false = may → HasEnded o whole at kept
 
--- the run went through, and this is kept of it
-pub record RunsThrough (R : Recording) (kept : Slicing) : Type 0 where
-  pub run : Run StepRec
-  pub whole : run_of (hart_step R.split) R (R.end - R.base) ≡ Some run
-  pub slices : Slices R run.records kept
+abbrev pub Turned : Opened → Scan → ℕ → Slicing → (Stood : List StepRec → Type 0) → ℕ → (may cut : Type 0)
+    → Result Bool ReplayFault → Type 0
+Turned o whole at kept Stood end may cut (Ok going) = IsShown o whole at kept Stood may going
+Turned o whole at kept Stood end may cut (Err e) = StopsFor o whole end may cut e
 
-abbrev pub Ran : Recording → Slicing → Result (Unit {0}) CutFault → Type 0
-Ran R kept (Ok u) = RunsThrough R kept
-Ran R kept (Err fault) = StopsFor R fault
+abbrev pub Ran : Opened → Scan → ℕ → Slicing → ℕ → (may cut : Type 0) → Result (Unit {0}) ReplayFault → Type 0
+Ran o whole at kept end may cut (Ok u) = may → HasEnded o whole at kept
+Ran o whole at kept end may cut (Err e) = StopsFor o whole end may cut e
+
+-- The window of an input in which nothing is bad, where its steps are there, and nothing where they aren't.
+pub record CutsOff (o : Opened) (whole : Scan) (a b : ℕ) (slice : Sliced) : Type 0 where
+  pub good : bad_behind hart_step o whole ≡ None
+  pub window : IsWindow (hart_step o.header.split) read_indices (decoded o whole) a b (written_of slice)
+
+pub record HasNone (o : Opened) (whole : Scan) (a b : ℕ) : Type 0 where
+  pub good : bad_behind hart_step o whole ≡ None
+  pub lacks : has_window (decoded o whole) a b ≡ false
+
+abbrev pub Cuts : Opened → Scan → (a b end : ℕ) → (may cut : Type 0) → Result (Option Sliced) ReplayFault → Type 0
+Cuts o whole a b end may cut (Ok None) = may → HasNone o whole a b
+Cuts o whole a b end may cut (Ok (Some slice)) = may → CutsOff o whole a b slice
+Cuts o whole a b end may cut (Err e) = StopsFor o whole end may cut e

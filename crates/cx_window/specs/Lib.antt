@@ -2,3 +2,4 @@ pub mod Marks
 pub mod Slicing
 pub mod Slice
 pub mod Cut
+pub mod Events

@@ -1,20 +1,21 @@
 -- The window that is cut from a run.
-use Rattle.std.specs.Prelude.{◌≡◌, ℕ, Bool, false, List, [], length, slice_index_or, Option, None, Some}
+use Rattle.std.specs.Prelude.{◌≡◌, ℕ, Bool, false, List, length, slice_index_or, Option, None, Some, IfSome}
 use Rattle.cx_csr.specs.declared.state.State.{State}
-use Rattle.cx_log.specs.Order.{IsHeader, MayEnd, at_start}
-use Rattle.cx_log.specs.Recording.{Recording}
+use Rattle.cx_log.specs.Order.{InOrder, IsHeader, at_start}
+use Rattle.cx_log.specs.Recording.{Recorded, Recording}
 use Rattle.cx_log.specs.declared.header.Header.{Header}
 use Rattle.cx_map.specs.Map.{size_of_pages}
 use Rattle.cx_run.specs.Window.{kept_pages}
 use Rattle.cx_window.specs.Slicing.{Slicing}
 
--- What stands in front of its pages, but for their count; the step behind its last; the memory before its first step; and for
--- each page whether its steps read it.
+-- What stands in front of its pages, but for their count; the step behind its last; the memory before its first step;
+-- for each page whether its steps read it; and their events.
 pub record Sliced : Type 0 where
   pub header : Header
   pub to : ℕ
   pub memory : List ℕ
   pub marks : List Bool
+  pub events : List Recorded
 
 abbrev pub is_marked : List Bool → ℕ → Bool
 is_marked marks page = slice_index_or marks page false
@@ -28,7 +29,7 @@ written_of s = record {
   base = s.header.base;
   start = s.header.start;
   memory = kept_pages (is_marked s.marks) s.memory s.header.pages;
-  events = [];
+  events = s.events;
   end = s.to;
 }
 
@@ -37,12 +38,21 @@ pub record IsWhole (s : Sliced) : Type 0 where
   pub header : IsHeader s.header
   pub memory : length s.memory ≡ size_of_pages s.header.pages
   pub marks : length s.marks ≡ s.header.pages
-  pub to : MayEnd (at_start s.header.base s.header.start) s.to
+  pub order : InOrder s.header.pages (at_start s.header.base s.header.start) s.events s.to
 
 -- what was kept, of a recording with this header
 abbrev pub slice_of : Header → Slicing → State → Sliced
-slice_of header s start = record { header = record header { base = s.from; start = start }; to = s.to; memory = s.memory; marks = s.marks }
+slice_of header s start = record {
+  header = record header { base = s.from; start = start };
+  to = s.to;
+  memory = s.memory;
+  marks = s.marks;
+  events = s.events;
+}
 
-abbrev pub option_slice_of : Header → Slicing → Option State → Option Sliced
-option_slice_of header s None = None
-option_slice_of header s (Some start) = Some (slice_of header s start)
+-- It is finished to this slice: there is one exactly where the machine before the first step was kept, and the events
+-- are in order.
+abbrev pub Finishes : Header → Slicing → Option Sliced → Type 0
+Finishes header s None =
+    IfSome s.start (λ start. InOrder header.pages (at_start s.from start) s.events s.to → ⊥)
+Finishes header s (Some slice) = (start : State) × ((s.start ≡ Some start) × (slice ≡ slice_of header s start))

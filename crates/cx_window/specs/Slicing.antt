@@ -1,27 +1,42 @@
 -- What is kept of a run for a window, as far as the run has come.
-use Rattle.std.specs.Prelude.{◌≡◌, ℕ, ◌+◌, ◌-◌, ◌==◌, ◌<◌, ◌≤◌, ◌&&◌, nat_le, nat_lt, Bool, true, false, List, [], length, take, drop, slice_index_or, replicate, Option, None, Some, IsSome, if◌then◌else◌}
+use Rattle.std.specs.Prelude.{◌≡◌, ℕ, ◌+◌, ◌-◌, ◌==◌, ◌<◌, ◌≤◌, ◌&&◌, nat_le, nat_lt, Bool, false, not, min, List}
+use Rattle.std.specs.Prelude.{[]}
+use Rattle.std.specs.Prelude.{length, take, drop, slice_index_or, replicate, Option, None, Some, IsSome, if◌then◌else◌}
+use Rattle.std.specs.Prelude.{IfSome}
+use Rattle.cx_csr.specs.Keeps.{Keeps}
 use Rattle.cx_csr.specs.declared.state.State.{State}
+use Rattle.cx_map.specs.Map.{size_of_pages}
 use Rattle.cx_hart.specs.HartStep.{hart_step}
 use Rattle.cx_hart.specs.Reads.{read_indices}
 use Rattle.cx_hart.specs.declared.record.StepRec.{StepRec}
-use Rattle.cx_log.specs.Recording.{Recording}
+use Rattle.cx_log.specs.Order.{InOrder, at_start}
+use Rattle.cx_log.specs.Recording.{Recorded, Recording}
+use Rattle.cx_machine.specs.Due.{Due}
 use Rattle.cx_machine.specs.Machine.{MachineState}
-use Rattle.cx_machine.specs.Step.{Stepped}
 use Rattle.cx_run.specs.Run.{Run, run_of}
-use Rattle.cx_run.specs.Window.{is_read}
+use Rattle.cx_run.specs.StepEvents.{step_events}
+use Rattle.cx_run.specs.Window.{events_between, is_read}
 
--- The window's first step and the one behind its last, the machine before the first step once the run stood there, and for
--- each page whether a step of the window read it.
+-- The window's first step and the one behind its last, the machine before the first step once the run stood there, for
+-- each page whether a step of the window read it, and the events of these steps.
 pub record Slicing : Type 0 where
   pub from : ℕ
   pub to : ℕ
   pub start : Option State
   pub memory : List ℕ
   pub marks : List Bool
+  pub events : List Recorded
 
 -- nothing is kept yet
 abbrev pub nothing_kept : ℕ → ℕ → ℕ → Slicing
-nothing_kept pages from to = record { from = from; to = to; start = None; memory = []; marks = replicate pages false }
+nothing_kept pages from to = record {
+  from = from;
+  to = to;
+  start = None;
+  memory = [];
+  marks = replicate pages false;
+  events = [];
+}
 
 -- the run stands before this step with this machine
 abbrev pub seen_at : ℕ → MachineState → Slicing → Slicing
@@ -35,11 +50,20 @@ is_within s step = nat_le s.from step && nat_lt step s.to
 abbrev pub window_reads : Slicing → ℕ → StepRec → List ℕ
 window_reads s step rec = if is_within s step then read_indices rec else []
 
+-- the events of a step, where it is one of the window; a mark at its first step is left out
+abbrev pub window_events : Slicing → ℕ → Bool → Due → List Recorded
+window_events s step marked due = if is_within s step then step_events step (not (step == s.from) && marked) due else []
+
 -- the machine that is kept is that of the recording before the window's first step
 abbrev pub IsKeptOf : Recording → Slicing → Option State → Type 0
 IsKeptOf R s None = Unit {0}
 IsKeptOf R s (Some state) =
-    (before : Run StepRec) × ((run_of (hart_step R.split) R (s.from - R.base) ≡ Some before) × ((state ≡ before.machine.state) × (s.memory ≡ before.machine.memory)))
+    (before : Run StepRec) × ((run_of (hart_step R.split) R (s.from - R.base) ≡ Some before)
+    × ((state ≡ before.machine.state) × (s.memory ≡ before.machine.memory)))
+
+-- The events of a recording are in order, up to its end.
+abbrev pub HasOrder : Recording → Type 0
+HasOrder R = InOrder R.pages (at_start R.base R.start) R.events R.end
 
 -- It is what the window needs of the run of R whose steps so far have these records.
 pub record Slices (R : Recording) (given : List StepRec) (s : Slicing) : Type 0 where
@@ -47,14 +71,17 @@ pub record Slices (R : Recording) (given : List StepRec) (s : Slicing) : Type 0 
   pub there : R.base ≤ s.from → s.from < R.base + length given → IsSome s.start
   pub marks : R.base ≤ s.from → (k : ℕ) → k < length s.marks
       → slice_index_or s.marks k false ≡ is_read read_indices (take (s.to - s.from) (drop (s.from - R.base) given)) k
+  pub events : R.base ≤ s.from → HasOrder R
+      → s.events ≡ events_between s.from (min s.to (R.base + length given)) R.events
+
+-- What is kept fits RAM of so many pages: a mark for each, and a machine of that size that keeps the rules.
+pub record IsFit (pages : ℕ) (s : Slicing) : Type 0 where
+  pub marks : length s.marks ≡ pages
+  pub start : IfSome s.start (Keeps pages)
+  pub memory : IfSome s.start (λ start. length s.memory ≡ size_of_pages pages)
 
 -- the window stays, and each page has a mark as before
 pub record SameWindow (old new : Slicing) : Type 0 where
   pub from : new.from ≡ old.from
   pub to : new.to ≡ old.to
   pub size : length new.marks ≡ length old.marks
-
--- whether a step was carried out, which left this machine and this record
-abbrev pub Goes : Option (Stepped StepRec) → Bool → StepRec → MachineState → Type 0
-Goes outcome true rec machine = outcome ≡ Some (record { machine = machine; rec = rec })
-Goes outcome false rec machine = outcome ≡ None

@@ -1,111 +1,126 @@
-//! Cutting a window from a run.
+//! Cutting a window from a replay.
 
-ghost use Rattle.std.specs.Prelude.{◌≡◌, ◌<◌, ◌≤◌, [], length};
-ghost use Rattle.cx_hart.specs.HartStep.{hart_step};
-ghost use Rattle.cx_hart.specs.Whole.{machine_of};
-ghost use Rattle.cx_log.specs.Order.{IsHeader, KeepsRules};
-ghost use Rattle.cx_log.specs.Recording.{Recording};
-ghost use Rattle.cx_machine.specs.Due.{nothing_due};
-ghost use Rattle.cx_window.specs.Cut.{CutsOff, Ran, StartsWith, without_events};
-ghost use Rattle.cx_window.specs.Slicing.{Slices, SameWindow, Goes};
+ghost use Rattle.std.specs.Bool.{OnFalse};
+ghost use Rattle.std.specs.Prelude.{◌≡◌, ◌+◌, ◌<◌, ◌^◌, ℕ, List, [], length, IfOk, IsSome, IsTrue, OnOk};
+ghost use Rattle.cx_codec.specs.Reads.{Begins};
+ghost use Rattle.cx_hart.specs.declared.record.StepRec.{StepRec};
+ghost use Rattle.cx_io.specs.Cause.{HasCause};
+ghost use Rattle.cx_log.specs.Order.{IsHeader};
+ghost use Rattle.cx_log.specs.Reading.{Opened};
+ghost use Rattle.cx_log.specs.Scan.{Scan, decoded};
+ghost use Rattle.cx_map.specs.Map.{size_of_pages};
+ghost use Rattle.cx_replay.specs.Records.{GaveMore, MayBeWhole};
+ghost use Rattle.cx_replay.specs.Replaying.{Stands, StepsOn};
+ghost use Rattle.cx_window.specs.Cut.{Cuts, IsJudged, Ran, Turned};
+ghost use Rattle.cx_window.specs.Slicing.{IsFit, SameWindow, Slices};
 
-use crate::fault::CutFault;
 use crate::slice::Slice;
 use crate::slicer::Slicer;
 use crate::span::Span;
-use cx_hart::{Due, Machine, StepRec, Steps, Went};
+use cx_hart::StepRec;
+use cx_io::Source;
 use cx_log::Header;
+use cx_replay::{Records, Replay, ReplayFault};
 use std::alloc::Global;
-use std::marker::Brand;
-use std::sync::ledger::{Blank, Ledger};
 
-// Takes a step to which nothing is due, and tells it in the record. False exactly where it isn't carried out, and then the
-// machine stays.
-#[tactic(auto, unfolding(cx_hart::specs::HartStep::hart_step))]
-fn go_on<L: Ledger>(machine: &mut Machine, rec: &mut StepRec, steps: &mut Steps<L>) -> bool
-    requires room { 2 ≤ machine.old.spare }
-    ensures step { Goes (hart_step machine.old.split (machine_of machine.old) nothing_due) result rec.new (machine_of machine.new) }
-    ensures size { length machine.new.memory ≡ length machine.old.memory }
-    ensures split { machine.new.split ≡ machine.old.split }
+// Takes the next step, and shows it to the slicer; false where the recording was read to its end.
+fn turn<R: Records, S: Source>(
+    replay: &mut Replay<R>,
+    slicer: &mut Slicer,
+    rec: &mut StepRec,
+    source: &mut S,
+) -> Result<bool, ReplayFault>
+    requires { IsTrue replay.old.live }
+    ensures follows { IsSome (S.left source.old) → GaveMore (S.left source.old) (S.given source.old) (S.left source.new)
+        (S.given source.new) }
+    ensures turned { IsSome (S.left source.old) → (input : List ℕ) → Begins (S.given source.new) input
+        → (end : ℕ) (o : Opened) (whole : Scan) (given : List StepRec)
+        → Stands o whole given replay.old.machine replay.old.progress (R.seen replay.old.records).bytes
+        (R.has replay.old.records (S.given source.old) input end)
+        → Slices (decoded o whole) given slicer.old
+        → Turned o whole replay.new.progress.at slicer.new
+        (λ now. Stands o whole now replay.new.machine replay.new.progress (R.seen replay.new.records).bytes
+        (R.has replay.new.records (S.given source.new) input end)) end
+        (MayBeWhole (S.left source.new) (S.given source.new) input) (input ≡ S.given source.new) result }
+    ensures spent { IsSome (S.left source.old)
+        → IfOk result (λ going. OnFalse going (R.leaves (S.left source.new))) }
+    ensures same { SameWindow slicer.old slicer.new }
+    ensures fit { (R.seen replay.old.records).pages ≡ (R.seen replay.new.records).pages
+        × (IsFit (R.seen replay.old.records).pages slicer.old → IsFit (R.seen replay.old.records).pages slicer.new) }
+    ensures live { OnOk result (IsTrue replay.new.live) }
+    ensures at { OnOk result (StepsOn replay.old.progress.at replay.new.progress.at result) }
+    ensures small { replay.old.progress.at < 2 ^ 64 }
+    ensures cause { HasCause ReplayFault.ReadFault (S.faults source.old) (S.faults source.new) result }
 {
-    let due = Due {
-        lines: None,
-        value: None,
-    };
-    match machine.step_into(due, steps, rec) {
-        Went::Stepped => true,
-        Went::NeedsValue(_) | Went::ValueLeft => false,
+    let step = replay.at();
+    slicer.see(step, replay.machine())?;
+    if !replay.next_into(rec, source)? {
+        return Ok(false);
     }
+    slicer.feed(step, rec, replay.gave_mark(), replay.due())?;
+    Ok(true)
 }
 
-// Carries out all steps from one up to another, and shows each to the slicer.
-fn run_through<L: Ledger>(
-    machine: Machine,
-    base: u64,
-    end: u64,
+// Takes all steps, and shows each to the slicer.
+fn run_through<R: Records, S: Source>(
+    replay: &mut Replay<R>,
     slicer: &mut Slicer,
-    steps: &mut Steps<L>,
-) -> Result<(), CutFault>
-    requires some { base ≤ end }
-    ensures ran { (R : Recording) → R.base ≡ base → R.end ≡ end → StartsWith R (machine_of machine) machine.split → Slices R [] slicer.old
-        → Ran R slicer.new result }
+    source: &mut S,
+) -> Result<(), ReplayFault>
+    requires { IsTrue replay.old.live }
+    ensures follows { IsSome (S.left source.old) → GaveMore (S.left source.old) (S.given source.old) (S.left source.new)
+        (S.given source.new) }
+    ensures ran { IsSome (S.left source.old) → (input : List ℕ) → Begins (S.given source.new) input
+        → (end : ℕ) (o : Opened) (whole : Scan)
+        → Stands o whole [] replay.old.machine replay.old.progress (R.seen replay.old.records).bytes
+        (R.has replay.old.records (S.given source.old) input end)
+        → Slices (decoded o whole) [] slicer.old
+        → Ran o whole replay.new.progress.at slicer.new end
+        (MayBeWhole (S.left source.new) (S.given source.new) input) (input ≡ S.given source.new) result }
+    ensures spent { IsSome (S.left source.old) → OnOk result (R.leaves (S.left source.new)) }
     ensures same { SameWindow slicer.old slicer.new }
+    ensures fit { IsFit (R.seen replay.old.records).pages slicer.old
+        → IsFit (R.seen replay.old.records).pages slicer.new }
+    ensures cause { HasCause ReplayFault.ReadFault (S.faults source.old) (S.faults source.new) result }
 {
-    let mut machine = machine;
     let mut rec = StepRec::BLANK;
-    for step in base..end {
-        slicer.see(step, &machine)?;
-        machine.reserve(2)?;
-        if !go_on(&mut machine, &mut rec, steps) {
-            return Err(CutFault::Broken(step));
-        }
-        slicer.feed(step, &rec);
+    let mut going = true;
+    while going {
+        going = turn(replay, slicer, &mut rec, source)?;
     }
     Ok(())
 }
 
-// Carries out all steps, and keeps what the window needs.
-fn cut_window<L: Ledger>(
+/// Takes all steps of a recording with this header, as it is replayed, and cuts off the window of these steps. It
+/// answers None exactly where the recording hasn't the window's steps. `Format` and `Broken` come exactly by the first
+/// bad place of the input. `ReadFault` comes only where the source's count of faults rose, and nothing that the source
+/// gave is bad then. `NoMemory` is free.
+pub fn cut<R: Records, S: Source>(
     alloc: Global,
-    machine: Machine,
+    replay: Replay<R>,
     header: &Header,
-    end: u64,
     span: Span,
-    blank: Blank,
-) -> Result<Option<Slice>, CutFault>
+    source: &mut S,
+) -> Result<Option<Slice>, ReplayFault>
+    requires live { IsTrue replay.live }
     requires header { IsHeader header.now }
-    requires rules { KeepsRules (without_events header.now machine.memory end) }
-    requires state { machine.state ≡ header.now.start }
-    requires split { machine.split ≡ header.now.split }
-    requires name { blank.name ≡ L.name }
-    requires parts { blank.parts ≡ L.parts }
-    requires one { 0 < blank.parts }
-    ensures { CutsOff (without_events header.now machine.memory end) span.from span.to result }
+    requires pages { (R.seen replay.records).pages ≡ header.now.pages }
+    ensures follows { IsSome (S.left source.old) → GaveMore (S.left source.old) (S.given source.old) (S.left source.new)
+        (S.given source.new) }
+    ensures cuts { IsSome (S.left source.old) → (input : List ℕ) → Begins (S.given source.new) input
+        → (end : ℕ) (o : Opened) (whole : Scan) → o.header ≡ header.now → IsJudged o whole
+        → Stands o whole [] replay.machine replay.progress (R.seen replay.records).bytes
+        (R.has replay.records (S.given source.old) input end)
+        → Cuts o whole span.from span.to end
+        (MayBeWhole (S.left source.new) (S.given source.new) input) (input ≡ S.given source.new) result }
+    ensures spent { IsSome (S.left source.old) → OnOk result (R.leaves (S.left source.new)) }
+    ensures cause { HasCause ReplayFault.ReadFault (S.faults source.old) (S.faults source.new) result }
 {
-    let mut steps: Steps<L> = Steps::none(blank);
+    let mut replay = replay;
     let mut slicer = Slicer::new(alloc, header.pages, span.from, span.to)?;
-    run_through(machine, header.base, end, &mut slicer, &mut steps)?;
-    if !span.lies_in(header.base, end) {
+    run_through(&mut replay, &mut slicer, source)?;
+    if !span.lies_in(header.base, replay.at()) {
         return Ok(None);
     }
     Ok(slicer.finish(header))
-}
-
-/// Carries out all steps of a recording without events, which begins with this machine, has this header and ends there, and
-/// cuts off the window of these steps. It answers None exactly where the recording hasn't the window's steps, `Broken` exactly
-/// where a step isn't carried out, and names the first. `NoMemory` is free.
-pub fn cut(
-    alloc: Global,
-    machine: Machine,
-    header: &Header,
-    end: u64,
-    span: Span,
-) -> Result<Option<Slice>, CutFault>
-    requires header { IsHeader header.now }
-    requires rules { KeepsRules (without_events header.now machine.memory end) }
-    requires state { machine.state ≡ header.now.start }
-    requires split { machine.split ≡ header.now.split }
-    ensures { CutsOff (without_events header.now machine.memory end) span.from span.to result }
-{
-    cut_window::<Brand>(alloc, machine, header, end, span, Blank::new(1))
 }

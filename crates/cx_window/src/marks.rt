@@ -1,6 +1,7 @@
 //! Marks of the pages that steps read.
 
-ghost use Rattle.std.specs.Prelude.{◌≡◌, ℕ, ◌/◌, ◌*◌, ◌<◌, ◌≤◌, ◌==◌, ◌||◌, false, length, replicate, slice_index_or, IfOk};
+ghost use Rattle.std.specs.Prelude.{◌≡◌, ℕ, ◌/◌, ◌*◌, ◌<◌, ◌≤◌, ◌==◌, ◌||◌, false, length, replicate, slice_index_or};
+ghost use Rattle.std.specs.Prelude.{IfOk};
 ghost use Rattle.cx_hart.specs.Reads.{entry_indices, ram_indices, read_indices, touch_indices};
 ghost use Rattle.cx_window.specs.Marks.{AddsMarks};
 
@@ -22,7 +23,8 @@ pub(crate) fn blank(alloc: Global, pages: u32) -> Result<Vec<bool>, NoMemory>
 // Marks a page, where it has a mark.
 fn mark_page(marks: &mut [bool], page: usize)
     ensures size { length marks.new ≡ length marks.old }
-    ensures marked { (k : ℕ) → k < length marks.old → slice_index_or marks.new k false ≡ (slice_index_or marks.old k false || page == k) }
+    ensures marked { (k : ℕ) → k < length marks.old
+        → slice_index_or marks.new k false ≡ (slice_index_or marks.old k false || page == k) }
 {
     if page < marks.len() {
         marks[page] = true;

@@ -1,6 +1,7 @@
 //! A window that is cut from a run, and its recording.
 
-ghost use Rattle.std.specs.Prelude.{◌≡◌, ◌+◌, ◌<◌, ◌≤◌, false, not, ◌&&◌, slice_index_or, if◌then◌else◌, OnOk, OnErr, IsSome, IsTrue};
+ghost use Rattle.std.specs.Prelude.{◌≡◌, ◌+◌, ◌<◌, ◌≤◌, false, not, ◌&&◌, slice_index_or, if◌then◌else◌, OnOk, OnErr};
+ghost use Rattle.std.specs.Prelude.{IsSome, IsTrue};
 ghost use Rattle.std.specs.Io.KnownBytes.{Appends};
 ghost use Rattle.cx_io.specs.Cause.{HasCause};
 ghost use Rattle.cx_codec.specs.Blocks.{HasFront};
@@ -10,6 +11,7 @@ ghost use Rattle.cx_log.specs.Order.{IsHeader};
 ghost use Rattle.cx_log.specs.Text.{header_of, page_count, page_text, pages_text, recording_text};
 ghost use Rattle.cx_window.specs.Slice.{IsWhole, written_of};
 
+use crate::events::WindowEvents;
 use cx_codec::OutFault;
 use cx_io::Sink;
 use cx_log::{Header, LogWriter};
@@ -18,14 +20,15 @@ use cx_ram::is_all_zero;
 use std::alloc::Global;
 use std::marker::Model;
 
-/// A window that is ready to be written: what stands in front of its pages, the step behind its last, the memory before its
-/// first step, and for each page whether a step of the window read a byte of it.
+/// A window that is ready to be written: what stands in front of its pages, the step behind its last, the memory before
+/// its first step, for each page whether a step of the window read a byte of it, and the events of its steps.
 #[derive(Drop)]
 pub struct Slice {
     header: Header,
     to: u64,
     memory: Vec<u8>,
     marks: Vec<bool>,
+    events: WindowEvents,
 }
 
 impl Model for Slice {
@@ -33,9 +36,21 @@ impl Model for Slice {
 
     ghost Value = { Sliced };
 
-    ghost view = { λ s. record { header = s.header; to = s.to; memory = s.memory.items; marks = s.marks.items } };
+    ghost view = { λ s. record {
+      header = s.header;
+      to = s.to;
+      memory = s.memory.items;
+      marks = s.marks.items;
+      events = s.events;
+    } };
 
-    ghost invariant = { λ s. IsWhole (record { header = s.header; to = s.to; memory = s.memory.items; marks = s.marks.items }) };
+    ghost invariant = { λ s. IsWhole (record {
+      header = s.header;
+      to = s.to;
+      memory = s.memory.items;
+      marks = s.marks.items;
+      events = s.events;
+    }) };
 }
 
 // One, where it holds.
@@ -48,15 +63,36 @@ fn one_if(holds: bool) -> u32
 
 impl Slice {
     /// A slice of these parts.
-    pub(crate) fn of(header: Header, to: u64, memory: Vec<u8>, marks: Vec<bool>) -> Slice
-        requires { IsWhole (record { header = header; to = to; memory = memory.items; marks = marks.items }) }
-        ensures { result ≡ record { header = header; to = to; memory = memory.items; marks = marks.items } }
+    pub(crate) fn of(
+        header: Header,
+        to: u64,
+        memory: Vec<u8>,
+        marks: Vec<bool>,
+        events: WindowEvents,
+    ) -> Slice
+        requires { IsWhole (record {
+          header = header;
+          to = to;
+          memory = memory.items;
+          marks = marks.items;
+          events =
+              events;
+        }) }
+        ensures { result ≡ record {
+          header = header;
+          to = to;
+          memory = memory.items;
+          marks = marks.items;
+          events =
+              events;
+        } }
     {
         Slice {
             header,
             to,
             memory,
             marks,
+            events,
         }
     }
 
@@ -120,12 +156,15 @@ impl Slice {
         requires live { IsTrue writer.old.output.live }
         requires pages { writer.old.header.pages ≡ self.now.header.pages }
         requires rising { writer.old.least ≤ page }
-        requires owed { writer.old.left + page_count (written_of self.now).memory page ≡ page_count (written_of self.now).memory self.now.header.pages }
+        requires owed { writer.old.left + page_count (written_of self.now).memory page ≡ page_count
+            (written_of self.now).memory self.now.header.pages }
         ensures puts { Puts OutFault.WriteFault (page_text (written_of self.now).memory page)
-            (onto writer.old.output (T.held sink.old) (T.faults sink.old)) (onto writer.new.output (T.held sink.new) (T.faults sink.new)) result }
+            (onto writer.old.output (T.held sink.old) (T.faults sink.old)) (onto writer.new.output (T.held sink.new)
+            (T.faults sink.new)) result }
         ensures header { writer.new.header ≡ writer.old.header }
         ensures behind { writer.new.behind ≡ writer.old.behind }
-        ensures left { OnOk result (writer.new.left + page_count (written_of self.now).memory (page + 1) ≡ page_count (written_of self.now).memory self.now.header.pages) }
+        ensures left { OnOk result (writer.new.left + page_count (written_of self.now).memory (page + 1) ≡ page_count
+            (written_of self.now).memory self.now.header.pages) }
         ensures next { OnOk result (writer.new.least ≤ page + 1) }
     {
         if self.keeps(page) {
@@ -141,7 +180,9 @@ impl Slice {
         requires first { writer.old.least ≡ 0 }
         requires owed { writer.old.left ≡ page_count (written_of self.now).memory self.now.header.pages }
         ensures puts { Puts OutFault.WriteFault (pages_text (written_of self.now).memory self.now.header.pages)
-            (onto writer.old.output (T.held sink.old) (T.faults sink.old)) (onto writer.new.output (T.held sink.new) (T.faults sink.new)) result }
+            (onto writer.old.output (T.held sink.old) (T.faults sink.old)) (onto writer.new.output (T.held sink.new)
+            (T.faults sink.new)) result }
+        ensures header { writer.new.header ≡ writer.old.header }
         ensures behind { writer.new.behind ≡ writer.old.behind }
         ensures left { OnOk result (writer.new.left ≡ 0) }
     {
@@ -151,16 +192,20 @@ impl Slice {
         Ok(())
     }
 
-    /// Writes the recording of the window. `WriteFault` comes only where the sink's count of faults rose, and `NoMemory` where
-    /// memory is refused, here or by the sink. After a refusal the sink holds a front of the recording.
+    /// Writes the recording of the window. `WriteFault` comes only where the sink's count of faults rose, and
+    /// `NoMemory` where memory is refused, here or by the sink. After a refusal the sink holds a front of the
+    /// recording.
     pub fn write<T: Sink>(&self, alloc: Global, sink: &mut T) -> Result<(), OutFault>
         ensures told { IsSome (T.held sink.old) → IsSome (T.held sink.new) }
-        ensures written { OnOk result (Appends (T.held sink.old) (T.held sink.new) (recording_text (written_of self.now))) }
-        ensures refused { OnErr result (HasFront (T.held sink.old) (recording_text (written_of self.now)) (T.held sink.new)) }
+        ensures written { OnOk result (Appends (T.held sink.old) (T.held sink.new)
+            (recording_text (written_of self.now))) }
+        ensures refused { OnErr result (HasFront (T.held sink.old) (recording_text (written_of self.now))
+            (T.held sink.new)) }
         ensures cause { HasCause OutFault.WriteFault (T.faults sink.old) (T.faults sink.new) result }
     {
         let mut writer = LogWriter::start(alloc, &self.front(), sink)?;
         self.put_pages(&mut writer, sink)?;
+        self.events.put(self.to, &mut writer, sink)?;
         writer.end(self.to, sink)
     }
 }

@@ -1,24 +1,27 @@
 //! What is kept of a run for its window.
 
-ghost use Rattle.std.specs.Prelude.{◌≡◌, ◌≤◌, length, IfOk, IfSome, OnErr, OnOk};
+ghost use Rattle.std.specs.Prelude.{◌≡◌, ◌≤◌, ◌++◌, ℕ, length, IfOk, OnErr, OnOk};
 ghost use Rattle.cx_hart.specs.Whole.{machine_of};
 ghost use Rattle.cx_map.specs.Map.{size_of_pages};
 ghost use Rattle.cx_window.specs.Marks.{AddsMarks};
-ghost use Rattle.cx_window.specs.Slice.{IsWhole, option_slice_of, slice_of};
-ghost use Rattle.cx_window.specs.Slicing.{nothing_kept, seen_at, window_reads};
+ghost use Rattle.cx_log.specs.Order.{IsHeader};
+ghost use Rattle.cx_window.specs.Slice.{Finishes};
+ghost use Rattle.cx_window.specs.Slicing.{IsFit, nothing_kept, seen_at, window_events, window_reads};
 
+use crate::events::WindowEvents;
 use crate::marks::{blank, mark_reads};
 use crate::slice::Slice;
 use cx_csr::State;
 use cx_hart::{Machine, StepRec};
 use cx_io::NoMemory;
-use cx_log::Header;
+use cx_log::{Behind, Header, STEP_LIMIT};
 use cx_ram::Ram;
+use cx_replay::DueRecords;
 use std::alloc::Global;
 use std::marker::Model;
 
-/// A slicer of the window from one step up to but not including another. It is shown the machine before each step and the
-/// record behind it; it keeps the machine before the window's first step, and marks the pages that its steps read.
+/// A slicer of the window from one step up to but not including another. It is shown the machine before each step and
+/// the record behind it; it keeps the machine before the window's first step, and marks the pages that its steps read.
 #[derive(Drop)]
 pub struct Slicer {
     alloc: Global,
@@ -27,6 +30,7 @@ pub struct Slicer {
     start: Option<State>,
     memory: Vec<u8>,
     marks: Vec<bool>,
+    events: WindowEvents,
 }
 
 impl Model for Slicer {
@@ -34,7 +38,14 @@ impl Model for Slicer {
 
     ghost Value = { Slicing };
 
-    ghost view = { λ s. record { from = s.from; to = s.to; start = s.start; memory = s.memory.items; marks = s.marks.items } };
+    ghost view = { λ s. record {
+      from = s.from;
+      to = s.to;
+      start = s.start;
+      memory = s.memory.items;
+      marks = s.marks.items;
+      events = s.events;
+    } };
 }
 
 // A copy of the bytes of RAM.
@@ -64,6 +75,7 @@ impl Slicer {
             start: None,
             memory: Vec::new(alloc),
             marks,
+            events: WindowEvents::new(alloc),
         })
     }
 
@@ -71,31 +83,54 @@ impl Slicer {
     pub fn see(&mut self, step: u64, machine: &Machine) -> Result<(), NoMemory>
         ensures seen { OnOk result (self.new ≡ seen_at step (machine_of machine.now) self.old) }
         ensures refused { OnErr result (self.new ≡ self.old) }
+        ensures fit { (pages : ℕ) → IsFit pages self.old → length machine.now.memory ≡ size_of_pages pages
+            → IsFit pages self.new }
     {
+        let state = machine.state();
         if step == self.from {
             self.memory = copy(self.alloc, machine.ram())?;
-            self.start = Some(*machine.state());
+            self.start = Some(*state);
         }
         Ok(())
     }
 
-    /// Shows it the record of a step.
-    pub fn feed(&mut self, step: u64, rec: &StepRec)
+    /// Shows it the record of a step, whether a mark stands at the step, and what was due to it. It takes memory where
+    /// an event is kept.
+    pub fn feed(
+        &mut self,
+        step: u64,
+        rec: &StepRec,
+        marked: bool,
+        due: &DueRecords,
+    ) -> Result<(), NoMemory>
         requires { rec.now.walked ≤ 6 }
         ensures marks { AddsMarks self.old.marks self.new.marks (window_reads self.old step rec.now) }
-        ensures same { self.new ≡ record self.old { marks = self.new.marks } }
+        ensures events { OnOk result (self.new.events ≡ self.old.events ++ window_events self.old step marked due.now) }
+        ensures same { self.new ≡ record self.old { marks = self.new.marks; events = self.new.events } }
     {
         if self.from <= step && step < self.to {
             mark_reads(&mut self.marks, rec);
+            self.events
+                .push_step(step, step != self.from && marked, due)?;
         }
+        Ok(())
     }
 
-    /// What was kept of a window of a recording with this header; None exactly where no machine was seen before its first step.
+    /// What was kept of a window of a recording with this header; None exactly where no machine was seen before its
+    /// first step, or the events that were kept aren't in order, as those of a recording are.
     pub(crate) fn finish(self, header: &Header) -> Option<Slice>
-        requires { IfSome self.start (λ start. IsWhole (slice_of header.now self start)) }
-        ensures { result ≡ option_slice_of header.now self self.start }
+        requires header { IsHeader header.now }
+        requires fit { IsFit header.now.pages self }
+        ensures { Finishes header.now self result }
     {
         let start = self.start?;
+        if self.from >= STEP_LIMIT {
+            return None;
+        }
+        let behind = Behind::at_start(self.from, &start);
+        if !self.events.are_in_order(header.pages, &behind, self.to) {
+            return None;
+        }
         let header = Header {
             version: header.version,
             split: header.split,
@@ -104,6 +139,6 @@ impl Slicer {
             start,
             count: header.count,
         };
-        Some(Slice::of(header, self.to, self.memory, self.marks))
+        Some(Slice::of(header, self.to, self.memory, self.marks, self.events))
     }
 }

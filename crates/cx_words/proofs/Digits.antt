@@ -18,7 +18,8 @@ pub tells_numeral : (base : ℕ) (text : List ℕ) → Decides (is_numeral base 
 tells_numeral base text = let each = tells_digits base text in grind (arith, nat_tests)
 
 -- a text that doesn't begin with a plus is read as its digits
-pub read_as_digits : {E : Type 0} (base : ℕ) (text : List ℕ) (r : Result ℕ E) → ParsesUnsigned 64 base text r → get_or text 0 0 ≢ 43 → result_ok r ≡ number_in base text
+pub read_as_digits : {E : Type 0} (base : ℕ) (text : List ℕ) (r : Result ℕ E) → ParsesUnsigned 64 base text r
+    → get_or text 0 0 ≢ 43 → result_ok r ≡ number_in base text
 read_as_digits base text (Ok n) read plain =
     let same = without_leading_plus_none text plain in
     let there = rw same at read in

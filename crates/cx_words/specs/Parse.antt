@@ -7,7 +7,9 @@ use Rattle.cx_words.specs.Arguments.{one_word, step_count, two_numbers}
 use Rattle.cx_words.specs.Number.{number}
 use Rattle.cx_words.specs.Queries.{query_count}
 use Rattle.cx_words.specs.declared.command.Command.{Command}
-use Rattle.cx_words.specs.declared.command.Command.TheVariants.{Window, Process, Calls, Relog, Replay, TraceAll, TraceWindow, TraceRoot, Record, RecordSeed, Roots, Inspect, Salvage, Make, Demo, Upgrade}
+use Rattle.cx_words.specs.declared.command.Command.TheVariants.{Window, Process, Calls, Relog, Replay, TraceAll}
+use Rattle.cx_words.specs.declared.command.Command.TheVariants.{TraceWindow, TraceRoot, Record, RecordSeed, Roots}
+use Rattle.cx_words.specs.declared.command.Command.TheVariants.{Inspect, Salvage, Make, Demo, Upgrade}
 
 -- a command that has no arguments
 unfoldable pub alone : Command → List (List ℕ) → Option Command

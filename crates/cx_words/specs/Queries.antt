@@ -1,5 +1,6 @@
 -- The queries of `inspect`: `state N`, `trap N`, `writer PA N` and `reader PA N`, with a step N and a place PA.
-use Rattle.std.specs.Prelude.{ℕ, ◌+◌, Bool, ◌&&◌, ◌||◌, if◌then◌else◌, List, [], ◌∷◌, Option, None, Some, is_some, codes}
+use Rattle.std.specs.Prelude.{ℕ, ◌+◌, Bool, ◌&&◌, ◌||◌, if◌then◌else◌, List, [], ◌∷◌, Option, None, Some, is_some}
+use Rattle.std.specs.Prelude.{codes}
 use Rattle.std.specs.Option.{option_map}
 use Rattle.std.specs.Str.{bytes_eq}
 use Rattle.cx_words.specs.Arguments.{word_number}
@@ -12,7 +13,8 @@ is_of_step kind step = (bytes_eq kind (codes "state") || bytes_eq kind (codes "t
 -- A query of a place and a step.
 abbrev pub is_of_place : List ℕ → List ℕ → List ℕ → Bool
 is_of_place kind place step =
-    (bytes_eq kind (codes "writer") || bytes_eq kind (codes "reader")) && is_some (word_number place) && is_some (number step)
+    (bytes_eq kind (codes "writer") || bytes_eq kind (codes "reader")) && is_some (word_number place)
+    && is_some (number step)
 
 abbrev pub one_more : Option ℕ → Option ℕ
 one_more rest = option_map (λ n. n + 1) rest

@@ -28,7 +28,8 @@ fn behind_query(words: &[String]) -> Option<&[String]>
     requires { 0 < length words.now }
     ensures shorter { IfSome result (λ rest. length rest.now < length words.now) }
     ensures count { MatchOption result (Queries.query_count (map string_bytes words.now) ≡ None)
-        (λ rest. Queries.query_count (map string_bytes words.now) ≡ one_more (Queries.query_count (map string_bytes rest.now))) }
+        (λ rest. Queries.query_count (map string_bytes words.now)
+        ≡ one_more (Queries.query_count (map string_bytes rest.now))) }
 {
     let [kind, number, rest @ ..] = words else {
         return None;

@@ -127,8 +127,8 @@ fn fetches_that_the_tables_refuse(rt: HostRuntime) -> Result<(), Fail> {
     Ok(())
 }
 
-/// Instructions of the space whose access the tables refuse: x2, the word, the place of an entry and what it is, then the
-/// cause, and the entry in front of it.
+/// Instructions of the space whose access the tables refuse: x2, the word, the place of an entry and what it is, then
+/// the cause, and the entry in front of it.
 const ACCESSES: [([u32; 4], u32, Mark); 7] = [
     ([0, 0x0000_0023, 0x8000_1000, 0x2000_0c5f], 15, FIRST), // sb x0, 0(x0)
     ([0, 0x1811_232f, 0x8000_1000, 0x2000_0c5b], 15, FIRST), // sc.w x6, x1, (x2)

@@ -1,5 +1,5 @@
-//! Interrupts: which are taken in each mode, before the instruction, and where they go (Privileged 1.12, 3.1.6.1, 3.1.7,
-//! 3.1.8 and 3.1.9).
+//! Interrupts: which are taken in each mode, before the instruction, and where they go (Privileged 1.12, 3.1.6.1,
+//! 3.1.7, 3.1.8 and 3.1.9).
 
 use crate::Ended;
 use crate::tests::play::{Given, Start, Want, play, turn};
@@ -49,7 +49,8 @@ fn interrupts_that_are_not_enabled(rt: HostRuntime) -> Result<(), Fail> {
     Ok(())
 }
 
-/// A mode, mstatus, mideleg, mie, mtvec, and the lines that come; then the interrupt's number, and pc and mstatus behind it.
+/// A mode, mstatus, mideleg, mie, mtvec, and the lines that come; then the interrupt's number, and pc and mstatus
+/// behind it.
 const TO_MACHINE: [([u32; 6], [u32; 3]); 11] = [
     (
         [3, 0x8, 0, 0x080, 0x8000_4000, 0x080],

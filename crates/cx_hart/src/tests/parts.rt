@@ -18,8 +18,8 @@ fn machine_mode<'a>(state: &'a [(u8, u32)], memory: &'a [(u32, u32)]) -> Start<'
     }
 }
 
-/// A load from x2 where the bytes 11 22 33 44 end the first page and 55 66 77 88 begin the next: its word, x2, the bytes
-/// that it reads of both, and x5 behind it.
+/// A load from x2 where the bytes 11 22 33 44 end the first page and 55 66 77 88 begin the next: its word, x2, the
+/// bytes that it reads of both, and x5 behind it.
 const LOADS: [(u32, u32, Mark, Mark, u32); 8] = [
     (
         0x0001_2283,
@@ -273,8 +273,8 @@ fn a_store_in_the_space(rt: HostRuntime) -> Result<(), Fail> {
     )
 }
 
-/// An access at -2(x2) that a part of it ends: the word, x2, the entry of the data; the cause, what the trap tells, and the
-/// entries behind the fetch.
+/// An access at -2(x2) that a part of it ends: the word, x2, the entry of the data; the cause, what the trap tells, and
+/// the entries behind the fetch.
 const ENDED: [(u32, u32, u32, u32, u32, [Mark; 4]); 5] = [
     // the second part, whose entry is missing: lw x5, -2(x2)
     (

@@ -20,8 +20,8 @@ const SPACE: [(u32, u32); 4] = [
     (0x8000_3000, 0x4433_2211),
 ];
 
-/// Where a machine starts: in user mode at address 1000 of the space, or in machine mode at the start of RAM; with these
-/// words of the state and of RAM.
+/// Where a machine starts: in user mode at address 1000 of the space, or in machine mode at the start of RAM; with
+/// these words of the state and of RAM.
 #[derive(Clone, Copy)]
 pub struct Start<'a> {
     pub space: bool,
@@ -56,8 +56,8 @@ pub enum Want {
     Leaves,
 }
 
-/// A step: what comes to it, what is wanted, its record, and the words of the state that it changes but for the counters
-/// and the pc that follows. What isn't used of each list changes nothing.
+/// A step: what comes to it, what is wanted, its record, and the words of the state that it changes but for the
+/// counters and the pc that follows. What isn't used of each list changes nothing.
 #[derive(Clone, Copy)]
 pub struct Row {
     given: [Given; 3],
@@ -178,7 +178,8 @@ fn count(words: &mut [u32; 58], low: usize)
     }
 }
 
-/// The words behind a step that is carried out: the counters and pc go on, where the step doesn't change them otherwise.
+/// The words behind a step that is carried out: the counters and pc go on, where the step doesn't change them
+/// otherwise.
 fn follow(words: &mut [u32; 58], ended: Ended, changes: &[(u8, u32)]) {
     count(words, 51);
     if ended == Ended::Retired {

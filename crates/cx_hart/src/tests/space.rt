@@ -53,7 +53,8 @@ fn a_missing_entry_comes_by_a_transfer(rt: HostRuntime) -> Result<(), Fail> {
     )
 }
 
-/// The kernel of a program: `addi x10, x0, 7`, `csrrs x11, mepc, x0`, `addi x11, x11, 4`, `csrrw x0, mepc, x11`, `mret`.
+/// The kernel of a program: `addi x10, x0, 7`, `csrrs x11, mepc, x0`, `addi x11, x11, 4`, `csrrw x0, mepc, x11`,
+/// `mret`.
 const KERNEL: [u32; 5] = [0x0070_0513, 0x3410_25f3, 0x0045_8593, 0x3415_9073, MRET];
 
 #[test]

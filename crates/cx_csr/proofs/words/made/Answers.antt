@@ -5,4 +5,9 @@ use Rattle.cx_csr.proofs.words.made.Goals as goal
 
 pub returns : goal.returns
 unfolding state_of
-returns c = rw (append-nil c.copy_from_slice.new.self, c.copy_from_slice.ensures.after, c.csr_from_words.ensures, c.reservation_from_words.ensures) refl
+returns c = rw (
+  append-nil c.copy_from_slice.new.self,
+  c.copy_from_slice.ensures.after,
+  c.csr_from_words.ensures,
+  c.reservation_from_words.ensures,
+) refl

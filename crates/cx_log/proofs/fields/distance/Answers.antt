@@ -11,8 +11,10 @@ returns-in_err-distance-clause-reads g c told =
 
 pub returns-then-not-may_stand_behind-clause-reads : goal.returns-then-not-may_stand_behind-clause-reads
 returns-then-not-may_stand_behind-clause-reads g c told =
-    rw c.refuse.ensures (checked_breaks _ (sym c.may_stand_behind.ensures.test ∙ c.if-not-may_stand_behind.true) (ap BadAt c.at-start.ensures.at) (c.in_ok-distance.ensures.reads told))
+    rw c.refuse.ensures (checked_breaks _ (sym c.may_stand_behind.ensures.test ∙ c.if-not-may_stand_behind.true)
+    (ap BadAt c.at-start.ensures.at) (c.in_ok-distance.ensures.reads told))
 
 pub returns-clause-reads : goal.returns-clause-reads
 returns-clause-reads g c told =
-    checked_passes _ (sym c.may_stand_behind.ensures.test ∙ c.if-not-may_stand_behind.false) refl (c.in_ok-distance.ensures.reads told)
+    checked_passes _ (sym c.may_stand_behind.ensures.test ∙ c.if-not-may_stand_behind.false) refl
+    (c.in_ok-distance.ensures.reads told)

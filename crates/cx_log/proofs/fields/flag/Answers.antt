@@ -12,7 +12,8 @@ returns-in_err-flag-clause-reads g c told =
 
 pub returns-then-flag-gt1-clause-reads : goal.returns-then-flag-gt1-clause-reads
 returns-then-flag-gt1-clause-reads g c told =
-    rw c.refuse.ensures (checked_breaks _ (lt-leb _ 1 c.if-flag-gt1.true) (ap BadAt c.at-start.ensures.at) (c.in_ok-flag.ensures.reads told))
+    rw c.refuse.ensures (checked_breaks _ (lt-leb _ 1 c.if-flag-gt1.true) (ap BadAt c.at-start.ensures.at)
+    (c.in_ok-flag.ensures.reads told))
 
 pub returns-clause-reads : goal.returns-clause-reads
 returns-clause-reads g c told =

@@ -11,7 +11,8 @@ returns-in_err-word-clause-reads g c told =
 
 pub returns-then-not-is_change-clause-reads : goal.returns-then-not-is_change-clause-reads
 returns-then-not-is_change-clause-reads g c told =
-    rw c.refuse.ensures (checked_breaks _ (sym c.is_change.ensures.test ∙ c.if-not-is_change.true) (ap BadAt c.at-start.ensures.at) (c.in_ok-word.ensures.reads told))
+    rw c.refuse.ensures (checked_breaks _ (sym c.is_change.ensures.test ∙ c.if-not-is_change.true)
+    (ap BadAt c.at-start.ensures.at) (c.in_ok-word.ensures.reads told))
 
 pub returns-clause-reads : goal.returns-clause-reads
 returns-clause-reads g c told =

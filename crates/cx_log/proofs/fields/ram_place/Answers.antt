@@ -11,7 +11,8 @@ returns-in_err-place-clause-reads g c told =
 
 pub returns-then-not-is_in_ram-clause-reads : goal.returns-then-not-is_in_ram-clause-reads
 returns-then-not-is_in_ram-clause-reads g c told =
-    rw c.refuse.ensures (checked_breaks _ (sym c.is_in_ram.ensures.test ∙ c.if-not-is_in_ram.true) (ap BadAt c.at-start.ensures.at) (c.in_ok-place.ensures.reads told))
+    rw c.refuse.ensures (checked_breaks _ (sym c.is_in_ram.ensures.test ∙ c.if-not-is_in_ram.true)
+    (ap BadAt c.at-start.ensures.at) (c.in_ok-place.ensures.reads told))
 
 pub returns-clause-reads : goal.returns-clause-reads
 returns-clause-reads g c told =

@@ -11,7 +11,8 @@ returns-in_err-word-clause-reads g c told =
 
 pub returns-then-not-word_fits-clause-reads : goal.returns-then-not-word_fits-clause-reads
 returns-then-not-word_fits-clause-reads g c told =
-    rw c.refuse.ensures (checked_breaks _ (sym c.word_fits.ensures.test ∙ c.if-not-word_fits.true) (ap BadAt c.at-start.ensures.at) (c.in_ok-word.ensures.reads told))
+    rw c.refuse.ensures (checked_breaks _ (sym c.word_fits.ensures.test ∙ c.if-not-word_fits.true)
+    (ap BadAt c.at-start.ensures.at) (c.in_ok-word.ensures.reads told))
 
 pub returns-clause-reads : goal.returns-clause-reads
 returns-clause-reads g c told =

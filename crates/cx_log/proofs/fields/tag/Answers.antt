@@ -12,7 +12,8 @@ returns-in_err-tag-clause-reads g c told =
 
 pub returns-then-tag-ge5-clause-reads : goal.returns-then-tag-ge5-clause-reads
 returns-then-tag-ge5-clause-reads g c told =
-    rw c.refuse.ensures (checked_breaks _ (le-ltb _ 5 c.if-tag-ge5.true) (ap BadAt c.at-start.ensures.at) (c.in_ok-tag.ensures.reads told))
+    rw c.refuse.ensures (checked_breaks _ (le-ltb _ 5 c.if-tag-ge5.true) (ap BadAt c.at-start.ensures.at)
+    (c.in_ok-tag.ensures.reads told))
 
 pub returns-clause-reads : goal.returns-clause-reads
 returns-clause-reads g c told =

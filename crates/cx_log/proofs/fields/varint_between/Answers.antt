@@ -11,8 +11,10 @@ returns-in_err-number-clause-reads g c told =
 
 pub returns-then-not-is_between-clause-reads : goal.returns-then-not-is_between-clause-reads
 returns-then-not-is_between-clause-reads g c told =
-    rw c.refuse.ensures (checked_breaks _ (sym c.is_between.ensures.test ∙ c.if-not-is_between.true) (ap BadAt c.at-start.ensures.at) (c.in_ok-number.ensures.reads told))
+    rw c.refuse.ensures (checked_breaks _ (sym c.is_between.ensures.test ∙ c.if-not-is_between.true)
+    (ap BadAt c.at-start.ensures.at) (c.in_ok-number.ensures.reads told))
 
 pub returns-clause-reads : goal.returns-clause-reads
 returns-clause-reads g c told =
-    checked_passes _ (sym c.is_between.ensures.test ∙ c.if-not-is_between.false) refl (c.in_ok-number.ensures.reads told)
+    checked_passes _ (sym c.is_between.ensures.test ∙ c.if-not-is_between.false) refl
+    (c.in_ok-number.ensures.reads told)

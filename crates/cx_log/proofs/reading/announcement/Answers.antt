@@ -15,7 +15,8 @@ pub returns-then-pages-eq0-clause-reads : goal.returns-then-pages-eq0-clause-rea
 unfolding announced_at
 returns-then-pages-eq0-clause-reads g c told =
     let pages = c.in_ok-pages.ensures.reads told in
-    goes {reader = announced_at} _ (λ p. refl) pages (rw c.if-pages-eq0.true (c.second_version.ensures.reads pages.follows.told))
+    goes {reader = announced_at} _ (λ p. refl) pages
+    (rw c.if-pages-eq0.true (c.second_version.ensures.reads pages.follows.told))
 
 pub returns-clause-reads : goal.returns-clause-reads
 unfolding announced_at

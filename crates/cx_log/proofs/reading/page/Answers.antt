@@ -15,7 +15,8 @@ unfolding page_at
 returns-in_err-page_bytes-clause-reads g c told =
     let p = err_from_is_err_and c.from_residual-in_err-page_bytes.result c.from_residual-in_err-page_bytes.ensures.1 in
     let number = c.in_ok-number.ensures.reads told in
-    rw (p.1, p.2) (goes _ (λ p. refl) number (fails _ (λ p. refl) refl (c.in_err-page_bytes.ensures.reads number.follows.told)))
+    rw (p.1, p.2) (goes _ (λ p. refl) number
+    (fails _ (λ p. refl) refl (c.in_err-page_bytes.ensures.reads number.follows.told)))
 
 pub returns-clause-reads : goal.returns-clause-reads
 unfolding page_at

@@ -15,11 +15,13 @@ unfolding second_version_at
 returns-in_err-pages-clause-reads g c told =
     let p = err_from_is_err_and c.from_residual-in_err-pages.result c.from_residual-in_err-pages.ensures.1 in
     let flag = c.in_ok-flag_byte.ensures.reads told in
-    rw (p.1, p.2) (goes {reader = second_version_at} _ (λ p. refl) flag (fails _ (λ p. refl) refl (c.in_err-pages.ensures.reads flag.follows.told)))
+    rw (p.1, p.2) (goes {reader = second_version_at} _ (λ p. refl) flag
+    (fails _ (λ p. refl) refl (c.in_err-pages.ensures.reads flag.follows.told)))
 
 pub returns-clause-reads : goal.returns-clause-reads
 unfolding second_version_at
 returns-clause-reads g c told =
     let flag = c.in_ok-flag_byte.ensures.reads told in
     let pages = c.in_ok-pages.ensures.reads flag.follows.told in
-    goes {reader = second_version_at} _ (λ p. refl) flag (goes _ (λ p. refl) pages (gives pages.follows.told (λ p. refl)))
+    goes {reader = second_version_at} _ (λ p. refl) flag
+    (goes _ (λ p. refl) pages (gives pages.follows.told (λ p. refl)))

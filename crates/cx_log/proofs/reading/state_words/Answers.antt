@@ -21,7 +21,8 @@ pub returns-in_err-word-clause-reads : goal.returns-in_err-word-clause-reads
 returns-in_err-word-clause-reads g c told =
     let p = err_from_is_err_and c.from_residual.result c.from_residual.ensures.1 in
     let so_far = c.loop-index.invariant.read told in
-    rw (p.1, p.2) (word_missing _ _ _ _ (omega (arith, c.loop-index-test.true)) refl so_far (c.in_err-word.ensures.reads so_far.follows.told))
+    rw (p.1, p.2) (word_missing _ _ _ _ (omega (arith, c.loop-index-test.true)) refl so_far
+    (c.in_err-word.ensures.reads so_far.follows.told))
 
 pub loop-index-preserved : goal.loop-index-preserved
 loop-index-preserved g c =
@@ -30,10 +31,12 @@ loop-index-preserved g c =
       limit = c.in_ok-word.ensures.goes.limit ∙ c.loop-index.invariant.limit;
       within = c.in_ok-word.ensures.goes.within;
       size = length-set _ _ _ ∙ c.loop-index.invariant.size;
-      fits = one_more_fits _ _ _ _ _ (omega (arith, c.loop-index-test.true)) c.loop-index.invariant.size c.loop-index.invariant.fits c.in_ok-word.ensures.fits;
+      fits = one_more_fits _ _ _ _ _ (omega (arith, c.loop-index-test.true)) c.loop-index.invariant.size
+          c.loop-index.invariant.fits c.in_ok-word.ensures.fits;
       read = λ told.
           let so_far = c.loop-index.invariant.read told in
-          word_read _ _ _ _ _ (omega (arith, c.loop-index-test.true)) c.loop-index.invariant.size so_far (c.in_ok-word.ensures.reads so_far.follows.told);
+          word_read _ _ _ _ _ (omega (arith, c.loop-index-test.true)) c.loop-index.invariant.size so_far
+          (c.in_ok-word.ensures.reads so_far.follows.told);
       later = omega (arith, c.in_ok-word.ensures.goes.cause.later);
       small = λ small. c.in_ok-word.ensures.goes.cause.fits (c.loop-index.invariant.small small);
     }

@@ -15,7 +15,8 @@ unfolding dma_at
 returns-in_err-size-clause-reads g c told =
     let p = err_from_is_err_and c.from_residual-in_err-size.result c.from_residual-in_err-size.ensures.1 in
     let place = c.in_ok-place.ensures.reads told in
-    rw (p.1, p.2) (goes _ (λ p. refl) place (fails _ (λ p. refl) refl (rw c.min-most.ensures at (c.in_err-size.ensures.reads place.follows.told))))
+    rw (p.1, p.2) (goes _ (λ p. refl) place
+    (fails _ (λ p. refl) refl (rw c.min-most.ensures at (c.in_err-size.ensures.reads place.follows.told))))
 
 pub returns-in_err-read-clause-reads : goal.returns-in_err-read-clause-reads
 unfolding dma_at
@@ -23,7 +24,8 @@ returns-in_err-read-clause-reads g c told =
     let p = err_from_is_err_and c.from_residual-in_err-read.result c.from_residual-in_err-read.ensures.1 in
     let place = c.in_ok-place.ensures.reads told in
     let size = rw c.min-most.ensures at (c.in_ok-size.ensures.reads place.follows.told) in
-    rw (p.1, p.2) (goes _ (λ p. refl) place (goes _ (λ p. refl) size (fails _ (λ p. refl) refl (c.in_err-read.ensures.reads size.follows.told))))
+    rw (p.1, p.2) (goes _ (λ p. refl) place
+    (goes _ (λ p. refl) size (fails _ (λ p. refl) refl (c.in_err-read.ensures.reads size.follows.told))))
 
 pub returns-clause-reads : goal.returns-clause-reads
 unfolding dma_at

@@ -23,7 +23,8 @@ returns-in_ok-place-in-Dma-clause-reads g c told =
 
 pub returns-in_err-lines-in-Lines-clause-reads : goal.returns-in_err-lines-in-Lines-clause-reads
 returns-in_err-lines-in-Lines-clause-reads g c told =
-    let p = err_from_is_err_and c.from_residual-in_err-lines-in-Lines.result c.from_residual-in_err-lines-in-Lines.ensures.1 in
+    let p = err_from_is_err_and c.from_residual-in_err-lines-in-Lines.result
+    c.from_residual-in_err-lines-in-Lines.ensures.1 in
     rw (p.1, p.2, c.in-Lines.is) (puts_fails _ refl (c.in_err-lines-in-Lines.ensures.reads told))
 
 pub returns-in_ok-lines-in-Lines-clause-reads : goal.returns-in_ok-lines-in-Lines-clause-reads
@@ -32,7 +33,8 @@ returns-in_ok-lines-in-Lines-clause-reads g c told =
 
 pub returns-in_err-value-in-Value-clause-reads : goal.returns-in_err-value-in-Value-clause-reads
 returns-in_err-value-in-Value-clause-reads g c told =
-    let p = err_from_is_err_and c.from_residual-in_err-value-in-Value.result c.from_residual-in_err-value-in-Value.ensures.1 in
+    let p = err_from_is_err_and c.from_residual-in_err-value-in-Value.result
+    c.from_residual-in_err-value-in-Value.ensures.1 in
     rw (p.1, p.2, c.in-Value.is) (puts_fails _ refl (c.in_err-value-in-Value.ensures.reads told))
 
 pub returns-in_ok-value-in-Value-clause-reads : goal.returns-in_ok-value-in-Value-clause-reads

@@ -24,7 +24,8 @@ returns-in_err-put_word g c =
 pub loop-word-preserved : goal.loop-word-preserved
 loop-word-preserved g c =
     record {
-      puts = puts_along _ _ (words_text-more c.args.words.now c.loop-word.word-index (omega (arith, c.loop-word-test.true)))
+      puts = puts_along _ _ (words_text-more c.args.words.now c.loop-word.word-index
+          (omega (arith, c.loop-word-test.true)))
           (puts_on _ _ c.loop-word.invariant.puts c.in_ok-put_word.ensures);
     }
 

@@ -1,4 +1,5 @@
-use Rattle.cx_run.proofs.BuiltSteps.{run_of-built_steps, built_steps-le, built_steps-whole, run_of-past_built_steps, first_step_that_stops}
+use Rattle.cx_run.proofs.BuiltSteps.{run_of-built_steps, built_steps-le, built_steps-whole, run_of-past_built_steps}
+use Rattle.cx_run.proofs.BuiltSteps.{first_step_that_stops}
 use Rattle.cx_run.proofs.laws.run_stops_at_its_first_gap.Goals as goal
 
 pub returns-clause-there : goal.returns-clause-there

@@ -6,4 +6,5 @@ use Rattle.cx_trap.proofs.entry.enter.Goals as goal
 
 pub returns-clause-keeps : goal.returns-clause-keeps
 returns-clause-keeps c pages k =
-    assumption (subst (Keeps pages) (sym c.take_trap.ensures) (keeps-delivered pages c.args.cause c.args.tval c.args.state.now (omega arith) (omega arith) k))
+    assumption (subst (Keeps pages) (sym c.take_trap.ensures) (keeps-delivered pages c.args.cause c.args.tval
+    c.args.state.now (omega arith) (omega arith) k))

@@ -1,14 +1,41 @@
-use Rattle.std.proofs.Common.{◌≡◌, ◌-◌, []}
-use Rattle.cx_hart.specs.Whole.{machine_of}
-use Rattle.cx_log.specs.Recording.{Recording}
-use Rattle.cx_window.specs.Cut.{HasRun, StartsWith}
-use Rattle.cx_window.specs.Slicing.{SameWindow, Slices}
+use Rattle.std.proofs.Common.{◌≡◌, ℕ, ◌+◌, ◌-◌, ◌^◌, ◌<◌, ◌≤◌, [], if◌then◌else◌, List, IsSome, IsTrue}
+use Rattle.std.specs.Bool.{OnFalse}
+use Rattle.cx_codec.specs.Reads.{Begins}
+use Rattle.cx_log.specs.Reading.{Opened}
+use Rattle.cx_log.specs.Scan.{Scan, decoded}
+use Rattle.cx_replay.specs.Records.{GaveMore, MayBeWhole}
+use Rattle.cx_replay.specs.Replaying.{Stands}
+use Rattle.cx_window.specs.Cut.{IsShown}
+use Rattle.cx_window.specs.Slicing.{IsFit, SameWindow, Slices}
 use Rattle.cx_window.proofs.cutting.run_through.Given as goal
 
-abbrev pub invariant-loop-step : goal.invariant-loop-step
-invariant-loop-step g l = record {
-  split : l.machine.split ≡ l.fn.machine.split;
-  same : SameWindow l.fn.slicer l.slicer;
-  ran : (R : Recording) → R.base ≡ l.base → R.end ≡ l.end → StartsWith R (machine_of l.fn.machine) l.fn.machine.split → Slices R [] l.fn.slicer
-      → HasRun R (l.step - l.base) (machine_of l.machine) l.slicer;
-}
+abbrev pub invariant-loop-going : goal.invariant-loop-going
+invariant-loop-going g l =
+    let left = g.S.Source.left in
+    let given = g.S.Source.given in
+    let faults = g.S.Source.faults in
+    let seen = g.R.Records.seen in
+    let has = g.R.Records.has in
+    record {
+      follows : IsSome (left l.fn.source) → GaveMore (left l.fn.source) (given l.fn.source) (left l.source)
+          (given l.source);
+      shown : IsSome (left l.fn.source) → (input : List ℕ) → Begins (given l.source) input
+          → (end : ℕ) (o : Opened) (whole : Scan)
+          → Stands o whole [] l.fn.replay.machine l.fn.replay.progress (seen l.fn.replay.records).bytes
+          (has l.fn.replay.records (given l.fn.source) input end)
+          → Slices (decoded o whole) [] l.fn.slicer
+          → IsShown o whole l.replay.progress.at l.slicer
+          (λ now. Stands o whole now l.replay.machine l.replay.progress (seen l.replay.records).bytes
+          (has l.replay.records (given l.source) input end)) (MayBeWhole (left l.source) (given l.source) input)
+          l.going;
+      spent : IsSome (left l.fn.source) → OnFalse l.going (g.R.Records.leaves (left l.source));
+      same : SameWindow l.fn.slicer l.slicer;
+      pages : (seen l.fn.replay.records).pages ≡ (seen l.replay.records).pages;
+      fit : IsFit (seen l.fn.replay.records).pages l.fn.slicer → IsFit (seen l.fn.replay.records).pages l.slicer;
+      live : IsTrue l.replay.live;
+      later : faults l.fn.source ≤ faults l.source;
+      small : faults l.fn.source < 2 ^ 64 → faults l.source < 2 ^ 64;
+    }
+
+abbrev pub decreases-loop-going : goal.decreases-loop-going
+decreases-loop-going g l = 2 ^ 64 - l.replay.progress.at + (if l.going then 1 else 0)

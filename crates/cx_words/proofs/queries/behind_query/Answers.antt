@@ -8,4 +8,5 @@ returns-in_default-clause-count c = none_of_one string_bytes c.args.words.now c.
 
 pub returns-then-is_of_step-clause-count : goal.returns-then-is_of_step-clause-count
 returns-then-is_of_step-clause-count c =
-    after_step string_bytes c.args.words.now c.kind-item.result c.number-item.result c.in-len2-up.len_at_least c.kind-item.is c.number-item.is (cc)
+    after_step string_bytes c.args.words.now c.kind-item.result c.number-item.result c.in-len2-up.len_at_least
+    c.kind-item.is c.number-item.is (cc)

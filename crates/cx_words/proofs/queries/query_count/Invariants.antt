@@ -7,7 +7,8 @@ use Rattle.cx_words.proofs.queries.query_count.Given as goal
 
 abbrev pub invariant-loop-rest : goal.invariant-loop-rest
 invariant-loop-rest l =
-    (query_count (map string_bytes l.words) ≡ option_map (λ n. l.count + n) (query_count (map string_bytes l.rest))) × (l.count + length l.rest ≤ length l.words)
+    (query_count (map string_bytes l.words) ≡ option_map (λ n. l.count + n) (query_count (map string_bytes l.rest)))
+    × (l.count + length l.rest ≤ length l.words)
 
 abbrev pub decreases-loop-rest : goal.decreases-loop-rest
 decreases-loop-rest l = length l.rest

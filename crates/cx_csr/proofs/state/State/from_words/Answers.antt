@@ -7,7 +7,8 @@ use Rattle.cx_csr.proofs.state.State.from_words.Goals as goal
 
 pub returns-in-Some-clause-back : goal.returns-in-Some-clause-back
 returns-in-Some-clause-back c s keeps e =
-    let fit : AllFit c.args.pages c.args.words.now = subst (AllFit c.args.pages) e (fit_from_keeps c.args.pages s keeps) in
+    let fit : AllFit c.args.pages c.args.words.now = subst (AllFit c.args.pages) e (fit_from_keeps c.args.pages s keeps)
+    in
     let bad = c.in-Some.ensures in
     absurd (bad.bad (fit c.in-Some.index bad.place))
 

@@ -15,4 +15,5 @@ returns-then-branch-clause-ends g c told =
 
 pub returns-clause-ends : goal.returns-clause-ends
 returns-clause-ends g c told =
-    rw (← c.self.view_is, c.refuse.ensures) (closes_later (rw c.if-branch.false at (c.in_ok-at_end.ensures.ends told)) (ap BadAt c.at-start.ensures.at))
+    rw (← c.self.view_is, c.refuse.ensures) (closes_later (rw c.if-branch.false at (c.in_ok-at_end.ensures.ends told))
+    (ap BadAt c.at-start.ensures.at))

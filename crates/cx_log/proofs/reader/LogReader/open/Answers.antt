@@ -9,7 +9,12 @@ pub returns-in_err-header-clause-opens : goal.returns-in_err-header-clause-opens
 unfolding opened_header_at
 returns-in_err-header-clause-opens g c told =
     let p = err_from_is_err_and c.from_residual-in_err-header.result c.from_residual-in_err-header.ensures.1 in
-    rw (p.1, p.2) (record { behind = c.header.new.bytes; reads = fails {reader = opened_header_at} _ (λ p. refl) refl (c.in_err-header.ensures.reads told); keeps = tt })
+    rw (p.1, p.2) (record {
+      behind = c.header.new.bytes;
+      reads = fails {reader = opened_header_at} _ (λ p. refl) refl
+          (c.in_err-header.ensures.reads told);
+      keeps = tt;
+    })
 
 pub returns-clause-opens : goal.returns-clause-opens
 unfolding opened_header_at

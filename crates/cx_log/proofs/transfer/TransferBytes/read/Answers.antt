@@ -10,4 +10,6 @@ returns-in_err-read_front-clause-reads g c told =
     rw (p.1, p.2) (refused_as refl (c.in_err-read_front.ensures.reads told))
 
 pub returns-clause-reads : goal.returns-clause-reads
-returns-clause-reads g c told = given_as (ap (take c.args.size) (with_items_is c.self.inside.buffer c.read_front.new.buffer (search rules))) (c.in_ok-read_front.ensures.reads told)
+returns-clause-reads g c told =
+    given_as (ap (take c.args.size) (with_items_is c.self.inside.buffer c.read_front.new.buffer (search rules)))
+    (c.in_ok-read_front.ensures.reads told)

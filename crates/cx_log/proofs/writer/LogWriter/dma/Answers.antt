@@ -10,7 +10,8 @@ pub returns-in_err-put_start-clause-puts : goal.returns-in_err-put_start-clause-
 unfolding record_text
 returns-in_err-put_start-clause-puts g c =
     let p = err_from_is_err_and c.from_residual.result c.from_residual.ensures.1 in
-    rw (← c.self.view_is, p.1, p.2) (puts_fails _ (payload (dma_event c.args.bytes.now c.args.place)) c.in_err-put_start.ensures)
+    rw (← c.self.view_is, p.1, p.2) (puts_fails _ (payload (dma_event c.args.bytes.now c.args.place))
+    c.in_err-put_start.ensures)
 
 pub returns-in_err-put_dma-clause-puts : goal.returns-in_err-put_dma-clause-puts
 unfolding record_text
@@ -20,7 +21,8 @@ returns-in_err-put_dma-clause-puts g c =
 
 pub invariant_of-self-2 : goal.invariant_of-self-2
 invariant_of-self-2 g c =
-    among_behind _ _ _ _ _ _ c.args.bytes.now (what.Dma c.args.place) (rw (← c.self.view_is) at c.requires.rules) c.self.invariant (c.after-self-inside.ensures c.args.bytes.now)
+    among_behind _ _ _ _ _ _ c.args.bytes.now (what.Dma c.args.place) (rw (← c.self.view_is) at c.requires.rules)
+    c.self.invariant (c.after-self-inside.ensures c.args.bytes.now)
 
 pub returns-clause-puts : goal.returns-clause-puts
 unfolding record_text

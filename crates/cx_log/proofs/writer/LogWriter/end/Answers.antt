@@ -14,4 +14,5 @@ returns-in_err-put_start g c =
 pub returns : goal.returns
 unfolding end_text
 returns g c =
-    rw (← c.self.view_is) (finishes_along _ _ (append-nil _) (finishes_on _ [] c.in_ok-put_start.ensures c.finish.ensures))
+    rw (← c.self.view_is) (finishes_along _ _ (append-nil _) (finishes_on _ [] c.in_ok-put_start.ensures
+    c.finish.ensures))

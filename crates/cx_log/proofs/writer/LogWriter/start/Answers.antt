@@ -8,7 +8,8 @@ use Rattle.cx_log.proofs.writer.LogWriter.start.Goals as goal
 pub returns-in_err-put_header-clause-starts : goal.returns-in_err-put_header-clause-starts
 returns-in_err-put_header-clause-starts g c =
     let p = err_from_is_err_and c.from_residual-in_err-put_header.result c.from_residual-in_err-put_header.ensures.1 in
-    rw (p.1, p.2) (starts_fails output_of _ (ap (λ (w : Waiting). w.bytes) c.in_ok-out.ensures) c.in_err-put_header.ensures)
+    rw (p.1, p.2) (starts_fails output_of _ (ap (λ (w : Waiting). w.bytes) c.in_ok-out.ensures)
+    c.in_err-put_header.ensures)
 
 pub returns-clause-starts : goal.returns-clause-starts
 returns-clause-starts g c =

@@ -11,9 +11,11 @@ invariant-loop-page g l =
     let faults = g.T.Sink.faults in
     record {
       puts : Puts {X = Unit {0}} WriteFault (pages_text (written_of l.self).memory l.page)
-          (onto l.fn.writer.output (held l.fn.sink) (faults l.fn.sink)) (onto l.writer.output (held l.sink) (faults l.sink)) (Ok (tt {0}));
+          (onto l.fn.writer.output (held l.fn.sink) (faults l.fn.sink))
+          (onto l.writer.output (held l.sink) (faults l.sink)) (Ok (tt {0}));
       header : l.writer.header ≡ l.fn.writer.header;
       behind : l.writer.behind ≡ l.fn.writer.behind;
       least : l.writer.least ≤ l.page;
-      left : l.writer.left + page_count (written_of l.self).memory l.page ≡ page_count (written_of l.self).memory l.self.header.pages;
+      left : l.writer.left + page_count (written_of l.self).memory l.page ≡ page_count (written_of l.self).memory
+          l.self.header.pages;
     }

@@ -1,0 +1,9 @@
+-- A frame that has a name is among those that are taken.
+use Rattle.std.proofs.Common.{ℕ, ◌<◌, ◌≤◌, length, subst}
+use Rattle.cx_pages.specs.Counts.{Tally, count_of}
+use Rattle.cx_pages.proofs.Tallies.{used_left}
+use Rattle.cx_pages.proofs.counts.Counts.tell_used.Goals as goal
+
+pub returns : goal.returns
+returns c = subst (λ (v : Tally). (f : ℕ) → 1 ≤ count_of v.counts f → v.spare < length v.counts) c.self.view_is
+    (λ f some. used_left _ _ _ f c.self.invariant some)

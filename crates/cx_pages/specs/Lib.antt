@@ -1,0 +1,4 @@
+pub mod Memories
+pub mod Frames
+pub mod Counts
+pub mod Tables

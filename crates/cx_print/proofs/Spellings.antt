@@ -1,0 +1,41 @@
+-- Words and bytes in a row, one more at a time, and how long they are.
+use Rattle.std.proofs.Common.{◌≡◌, ℕ, zero, suc, ◌+◌, ◌<◌, List, [], ◌∷◌, ◌++◌, length, take, get_or, refl, ap, ◌∙◌}
+use Rattle.std.proofs.Common.{append-nil}
+use Rattle.std.specs.List.{flat_map}
+use Rattle.std.proofs.lemmas.List.{take_more}
+use Rattle.std.proofs.lemmas.List.Concat.{flat_map-append}
+use Rattle.std.proofs.lemmas.Grind.{common_steps}
+use Rattle.cx_print.specs.Hex.{hex}
+use Rattle.cx_print.specs.Words.{spaced_words, joined_bytes}
+
+pub hex_is_as_long : (count n : ℕ) → length (hex count n) ≡ count
+unfolding hex
+hex_is_as_long zero n = refl
+hex_is_as_long (suc count) n = ap suc (hex_is_as_long count n)
+
+one_more : (f : ℕ → List ℕ) (xs : List ℕ) (i : ℕ) → i < length xs
+    → flat_map f (take (i + 1) xs) ≡ flat_map f (take i xs) ++ f (get_or xs i 0)
+one_more f xs i inside =
+    ap (flat_map f) (take_more xs i 0 inside)
+    ∙ flat_map-append f (take i xs) (get_or xs i 0 ∷ [])
+    ∙ ap (λ (e : List ℕ). flat_map f (take i xs) ++ e) (append-nil (f (get_or xs i 0)))
+
+pub no_words : spaced_words [] ≡ []
+unfolding spaced_words
+no_words = refl
+
+pub one_more_word : (words : List ℕ) (i : ℕ) → i < length words
+    → spaced_words (take (i + 1) words) ≡ spaced_words (take i words) ++ (32 ∷ hex 8 (get_or words i 0))
+unfolding spaced_words
+one_more_word = one_more (λ word. 32 ∷ hex 8 word)
+
+pub no_bytes : joined_bytes [] ≡ []
+unfolding joined_bytes
+no_bytes = refl
+
+pub one_more_byte : (bytes : List ℕ) (i : ℕ) → i < length bytes
+    → joined_bytes (take (i + 1) bytes) ≡ joined_bytes (take i bytes) ++ hex 2 (get_or bytes i 0)
+unfolding joined_bytes
+one_more_byte = one_more (hex 2)
+
+pub ruleset in_a_row = (hex_is_as_long, no_words, one_more_word, no_bytes, one_more_byte, common_steps)

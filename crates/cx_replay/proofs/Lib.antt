@@ -1,0 +1,11 @@
+pub mod Scanning
+pub mod Handing
+pub mod Reading
+pub mod Standing
+pub mod Turning
+pub mod Giving
+pub mod Settling
+pub mod Steps
+pub mod Answering
+pub mod Marks
+pub mod PassedMark

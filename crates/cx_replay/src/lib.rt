@@ -1,0 +1,20 @@
+//! Replaying a recording step by step, as its records are read.
+#![tactic(auto)]
+
+mod advance;
+mod due;
+mod fault;
+mod gather;
+mod laws;
+mod log_records;
+mod progress;
+mod records;
+mod replay;
+mod step;
+
+pub use due::DueRecords;
+pub use fault::ReplayFault;
+pub use laws::{inputs_are_judged_behind_their_pages, what_was_given_is_settled};
+pub use progress::Progress;
+pub use records::Records;
+pub use replay::Replay;
