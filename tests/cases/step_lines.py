@@ -1,9 +1,9 @@
-"""`trace all`: a line for each step, as the steps are settled, and what is written before a refusal."""
+"""`trace all` and `replay`: a line for each step, as the steps are settled, and what is written before a refusal."""
 from case import case
 from recordings import MACHINE, RAM, Recording, State, page
 from recordings.assembler import assemble
 from recordings.recording import Dma, Lines, Value
-from statuses import broken, done, format_at
+from statuses import broken, done, format_at, not_built
 
 BLOCK = 4096
 
@@ -61,4 +61,16 @@ CASES = [
     case('a step that is broken comes behind the whole blocks of those before it', 'trace all',
          looped(100).but(events=(Value(50, 7),)), broken(50), loop_lines(50)[:len(loop_lines(50)) // BLOCK * BLOCK]),
     case('a bad header has no lines', 'trace all', b'CXR1\1', format_at(5)),
+    case('a hundred steps are replayed', 'replay', looped(100), done, loop_lines(100)),
+    case('a value that is asked for is replayed', 'replay', ASKED, done,
+         line(0, ASKED.start, assemble('rdtime a0')[0], value='00000007')
+         + line(1, ASKED.start.after(1, pc=RAM + 4, a0=7), assemble('j 0')[0])),
+    case('a replay that is broken comes behind the whole blocks', 'replay', looped(100).but(events=(Value(50, 7),)),
+         broken(50), loop_lines(50)[:len(loop_lines(50)) // BLOCK * BLOCK]),
+    case('the magic of a process slice', 'replay', b'CXP1', not_built(0)),
+    case('the magic of a call slice, with more behind it', 'replay', b'CXC1\1\0\0\0', not_built(0)),
+    case('a slice that is traced', 'trace all', b'CXP1\1', format_at(0)),
+    case('a magic of nothing', 'replay', b'CXS1', format_at(0)),
+    case('a magic that is cut off', 'replay', b'CXP', format_at(3)),
+    case('no input', 'replay', b'', format_at(0)),
 ]

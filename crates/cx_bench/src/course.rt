@@ -4,7 +4,9 @@ ghost use Rattle.std.specs.Prelude.{◌≡◌, ◌+◌, ◌*◌, ◌<◌, ◌≤
 ghost use Rattle.cx_bench.specs.declared.course.CourseFault.TheVariants.{NoMemory as no_memory};
 
 use crate::mode::Mode;
-use crate::setting::{CODE, CODE_START, LOWER_ENTRY, LOWER_TABLE, PAGES, UPPER_ENTRY, UPPER_TABLE};
+use crate::setting::{
+    CODE_START, HANDLER, HANDLER_START, LOWER_ENTRY, LOWER_TABLE, PAGES, UPPER_ENTRY, UPPER_TABLE,
+};
 use crate::tally::Tally;
 use cx_csr::State;
 use cx_hart::{Due, Machine, NoMemory, StepRec, Steps, Went};
@@ -51,7 +53,8 @@ fn write_words(machine: &mut Machine, place: u32, words: &[u32]) -> Result<(), N
 /// A machine at the beginning of the course.
 fn machine_ready(alloc: Global, mode: Mode) -> Result<Machine, NoMemory> {
     let mut machine = Machine::new(alloc, PAGES, mode.start())?;
-    write_words(&mut machine, CODE_START, &CODE)?;
+    write_words(&mut machine, CODE_START, mode.code())?;
+    write_words(&mut machine, HANDLER_START, &HANDLER)?;
     write_words(&mut machine, UPPER_ENTRY, &UPPER_TABLE)?;
     write_words(&mut machine, LOWER_ENTRY, &LOWER_TABLE)?;
     Ok(machine)
@@ -79,6 +82,26 @@ fn take_steps<L: Ledger>(
     Ok(tally)
 }
 
+/// Takes so many steps of which no record is made.
+fn take_untold<L: Ledger>(
+    machine: &mut Machine,
+    count: u32,
+    steps: &mut Steps<L>,
+) -> Result<Tally, CourseFault> {
+    let due = Due {
+        lines: None,
+        value: None,
+    };
+    for _ in 0..count {
+        machine.reserve(2)?;
+        match machine.step_untold(due, steps) {
+            Went::Stepped => {}
+            _ => return Err(CourseFault::Stopped),
+        }
+    }
+    Ok(Tally::none())
+}
+
 /// Takes so many steps from the beginning of the course.
 fn take_counted<L: Ledger>(
     blank: Blank,
@@ -92,7 +115,11 @@ fn take_counted<L: Ledger>(
 {
     let mut steps = Steps::<L>::none(blank);
     let mut machine = machine_ready(alloc, mode)?;
-    let tally = take_steps(&mut machine, count, &mut steps)?;
+    let tally = if mode.is_told() {
+        take_steps(&mut machine, count, &mut steps)?
+    } else {
+        take_untold(&mut machine, count, &mut steps)?
+    };
     Ok((*machine.state(), tally))
 }
 

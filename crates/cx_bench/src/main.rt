@@ -1,6 +1,7 @@
 //! A measure of the step: one loop of computation, loads, stores, branches and a jump, taken for so many steps in
-//! machine mode, or in user mode behind page tables. It prints where the hart ends and what the records of the steps
-//! told, so that a run is a test too; how long a run takes is measured from outside.
+//! machine mode, or in user mode behind page tables; both again without a record; and a mix that is nearer to a
+//! program. It prints where the hart ends and what the records of the steps told, so that a run is a test too; how
+//! long a run takes is measured from outside.
 #![tactic(auto)]
 
 mod course;
@@ -38,7 +39,7 @@ fn print(rt: &impl Print, state: &State, tally: &Tally) -> Result<()> {
 fn run(rt: &HostRuntime, steps: u32, names: &[String]) -> Result<()> {
     for name in names {
         let Some(mode) = Mode::named(name.as_str()) else {
-            bail!("the modes are machine and user");
+            bail!("the modes are machine, user, mix, machine-untold and user-untold");
         };
         let (state, tally) = take_course(rt.alloc(), mode, steps)?;
         println!(rt; "{} mode, {} steps", mode.name(), state.csr.mcycle)?;

@@ -1,10 +1,10 @@
 //! The modes in which the course is taken.
 
-ghost use Rattle.std.specs.Prelude.{◌≡◌, ◌%◌, ◌^◌, ◌<◌, length, slice_index, All};
+ghost use Rattle.std.specs.Prelude.{◌≡◌, ◌%◌, ◌^◌, ◌<◌, ◌≤◌, length, slice_index, All};
 ghost use Rattle.cx_csr.specs.Keeps.{Keeps, KeepsCsr};
 ghost use Rattle.cx_csr.specs.Rules.{IsMode};
 
-use crate::setting::SATP;
+use crate::setting::{CODE, HANDLER_START, MIX, SATP};
 use cx_csr::{CsrFile, Lines, State};
 
 /// A mode in which the course is taken.
@@ -14,6 +14,12 @@ pub enum Mode {
     Machine,
     /// User mode, behind page tables of two levels.
     User,
+    /// User mode, with a code that is nearer to a program, and with calls of the environment.
+    Mix,
+    /// Machine mode, of which no record is made.
+    MachineUntold,
+    /// User mode, of which no record is made.
+    UserUntold,
 }
 
 impl Mode {
@@ -22,6 +28,9 @@ impl Mode {
         match name {
             "machine" => Some(Mode::Machine),
             "user" => Some(Mode::User),
+            "mix" => Some(Mode::Mix),
+            "machine-untold" => Some(Mode::MachineUntold),
+            "user-untold" => Some(Mode::UserUntold),
             _ => None,
         }
     }
@@ -31,6 +40,24 @@ impl Mode {
         match self {
             Mode::Machine => "machine",
             Mode::User => "user",
+            Mode::Mix => "mix",
+            Mode::MachineUntold => "machine-untold",
+            Mode::UserUntold => "user-untold",
+        }
+    }
+
+    /// Whether its steps are told in a record.
+    pub fn is_told(self) -> bool {
+        !matches!(self, Mode::MachineUntold | Mode::UserUntold)
+    }
+
+    /// What it does.
+    pub fn code(self) -> &'static [u32]
+        ensures { length result.now ≤ 64 }
+    {
+        match self {
+            Mode::Mix => &MIX,
+            _ => &CODE,
         }
     }
 
@@ -39,8 +66,18 @@ impl Mode {
         ensures { Keeps 4 result }
     {
         match self {
-            Mode::Machine => state_at(0x8000_0000, registers(0x8000_1000), 3, 0),
-            Mode::User => state_at(0x0040_0000, registers(0x0040_1000), 0, SATP),
+            Mode::Machine | Mode::MachineUntold => state_at(
+                0x8000_0000,
+                registers(0x8000_1000),
+                3,
+                0,
+            ),
+            Mode::User | Mode::UserUntold | Mode::Mix => state_at(
+                0x0040_0000,
+                registers(0x0040_1000),
+                0,
+                SATP,
+            ),
         }
     }
 }
@@ -56,7 +93,7 @@ fn registers(data: u32) -> [u32; 32]
     x
 }
 
-/// Control registers that are all 0, but for `satp`.
+/// Control registers that are all 0, but for `satp` and the place of the code that answers calls.
 fn control(satp: u32) -> CsrFile
     ensures { KeepsCsr result }
 {
@@ -66,7 +103,7 @@ fn control(satp: u32) -> CsrFile
         mideleg: 0,
         mie: 0,
         mip: 0,
-        mtvec: 0,
+        mtvec: HANDLER_START,
         mcounteren: 0,
         mscratch: 0,
         mepc: 0,

@@ -3,7 +3,9 @@
 use crate::decoder::decode;
 use crate::encoder::encode;
 use crate::formed::well_formed;
+use crate::group::Group;
 use crate::ins::Ins;
+use crate::kept::Decoder;
 use crate::op::Op;
 use crate::slow;
 
@@ -154,6 +156,43 @@ fn some_operands_have_no_word(rt: HostRuntime) {
                 imm
             }),
             "{op:?}"
+        );
+    }
+}
+
+/// Words that share a place of the table of kept words, turn by turn: two instructions, one and a word that is none,
+/// and one and the word that stood there from the start.
+#[test]
+fn words_that_share_a_place(rt: HostRuntime) {
+    let mut decoder = match Decoder::new(rt.alloc()) {
+        Ok(decoder) => decoder,
+        Err(_) => panic!(rt; "no memory"),
+    };
+    let pairs: [(u32, u32); 3] = [
+        (0x0000_8093, 0x2430_8093), // addi x1, x1, 0 and addi x1, x1, 0x243
+        (0x2c62_8313, 0xffff_ffff), // addi x6, x5, 0x2c6
+        (0x3e62_8313, 0x0000_0000), // addi x6, x5, 0x3e6
+    ];
+    for (one, other) in pairs {
+        for word in [one, other, other, one, other] {
+            let known = decoder.decode(word);
+            assert_eq!(rt; known.map(|known| known.ins), decode(word), "{word:x}");
+            if let Some(known) = known {
+                assert_eq!(rt; known.group, Group::Computes, "{word:x}");
+            }
+        }
+    }
+    let groups: [(u32, Group); 4] = [
+        (0x0014_4383, Group::Loads(1)), // lbu x7, 1(x8)
+        (0x7e32_1fa3, Group::Stores(2)), // sh x3, 2047(x4)
+        (0x1050_0073, Group::Others), // wfi
+        (0x7fe0_00ef, Group::Computes), // jal x1, . + 0x7fe
+    ];
+    for (word, group) in groups {
+        assert_eq!(rt;
+            decoder.decode(word).map(|known| known.group),
+            Some(group),
+            "{word:x}"
         );
     }
 }

@@ -20,6 +20,7 @@ use cx_decode::{Ins, Op};
 /// its number counts alone. `Misaligned` comes exactly where a jump or a taken branch has a target that isn't a
 /// multiple of 4. A value is stored exactly where the ask is for a store. ECALL, EBREAK, SRET and MRET go on to pc + 4:
 /// what they do besides is no matter of these values.
+#[inline(always)]
 pub fn carry_out(ins: &Ins, pc: u32, regs: &[u32; 32], got: Got) -> Result<Effect, Misaligned>
     requires { WellFormed ins.now }
     ensures effect { result ≡ effect_of ins.now pc regs.now got }
@@ -107,6 +108,7 @@ pub fn carry_out(ins: &Ins, pc: u32, regs: &[u32; 32], got: Got) -> Result<Effec
 }
 
 /// A value goes to a register; register 0 drops it.
+#[inline(always)]
 pub fn put(regs: &mut [u32; 32], rd: u8, value: u32)
     requires { rd < 32 }
     ensures { regs.new ≡ registers_with regs.old rd value }

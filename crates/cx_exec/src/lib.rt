@@ -11,6 +11,7 @@ mod control;
 mod effect;
 mod execute;
 mod got;
+mod load;
 mod needs;
 #[cfg(test)]
 mod results;
@@ -24,5 +25,7 @@ pub use control::{control_operand, control_value, reads_control, writes_control}
 pub use effect::{Done, Effect, Misaligned};
 pub use execute::{carry_out, finish, put};
 pub use got::Got;
+pub use load::loaded_value;
 pub use needs::ask;
 pub use user::{user_retires, user_word};
+pub use values::register;

@@ -26,6 +26,7 @@ pub struct Values {
 }
 
 /// The value of a register; register 0 reads 0.
+#[inline(always)]
 pub fn register(regs: &[u32; 32], number: u8) -> u32
     requires { number < 32 }
     ensures { result ≡ register regs.now number }
@@ -42,6 +43,7 @@ impl Values {
     ghost use Rattle.cx_exec.specs.Values.{values_of};
 
     /// The values of an instruction.
+    #[inline(always)]
     pub fn of(ins: &Ins, pc: u32, regs: &[u32; 32], got: Got) -> Values
         requires rs1 { ins.now.rs1 < 32 }
         requires rs2 { ins.now.rs2 < 32 }
@@ -57,6 +59,7 @@ impl Values {
         }
     }
 
+    #[inline(always)]
     fn following(&self) -> u32
         ensures { result ≡ following self.now }
     {
@@ -64,6 +67,7 @@ impl Values {
     }
 
     /// No result and no store.
+    #[inline(always)]
     pub fn passes(&self) -> Result<Effect, Misaligned>
         ensures { result ≡ passes self.now }
     {
@@ -76,6 +80,7 @@ impl Values {
     }
 
     /// A value to rd.
+    #[inline(always)]
     pub fn gives(&self, value: u32) -> Result<Effect, Misaligned>
         ensures { result ≡ gives self.now value }
     {
@@ -88,6 +93,7 @@ impl Values {
     }
 
     /// A value to memory.
+    #[inline(always)]
     pub fn stores(&self, value: u32) -> Result<Effect, Misaligned>
         ensures { result ≡ stores self.now value }
     {
@@ -134,6 +140,7 @@ impl Values {
     }
 
     /// A jump, which leaves the place behind it in rd.
+    #[inline(always)]
     pub fn jumps(&self, target: u32) -> Result<Effect, Misaligned>
         ensures { result ≡ jumps self.now target }
     {
@@ -141,6 +148,7 @@ impl Values {
     }
 
     /// A branch by the immediate where it is taken.
+    #[inline(always)]
     pub fn branches(&self, taken: bool) -> Result<Effect, Misaligned>
         ensures { result ≡ branches self.now taken }
     {
@@ -153,6 +161,7 @@ impl Values {
 }
 
 /// On to a target, with a value to a register.
+#[inline(always)]
 fn goes(rd: u8, value: u32, target: u32) -> Result<Effect, Misaligned>
     ensures { result ≡ goes rd value target }
 {

@@ -1,19 +1,23 @@
 -- How a turn that has ended becomes the outcome of a step.
-use Rattle.std.proofs.Common.{◌≡◌, ℕ, ◌+◌, ◌^◌, true, false, List, length, Option, None, Some, Ok, Err, IfSome}
+use Rattle.std.proofs.Common.{◌≡◌, ℕ, ◌+◌, ◌^◌, ◌<◌, true, false, List, length, Option, None, Some, Ok, Err, IfSome}
 use Rattle.std.proofs.Common.{unwrap_or, refl, sym, subst, ap, arith}
 use Rattle.cx_csr.specs.declared.lines.Lines.{Lines}
 use Rattle.cx_csr.specs.declared.state.State.{State}
 use Rattle.cx_csr.specs.Keeps.{Keeps}
+use Rattle.cx_decode.specs.WellFormed.{WellFormed}
+use Rattle.cx_decode.specs.declared.ins.Ins.{Ins}
 use Rattle.cx_machine.specs.Due.{AreLines, with_lines}
 use Rattle.cx_machine.specs.Machine.{MachineState, pages_of}
 use Rattle.cx_map.specs.Bytes.{AreBytes}
 use Rattle.cx_hart.specs.Conclude.{IsEnd, asked_of, is_left}
 use Rattle.cx_hart.specs.Ends.{End}
+use Rattle.cx_hart.specs.Outcomes.{Goes, machine, outcome_from}
 use Rattle.cx_hart.specs.Looks.{Look, told}
 use Rattle.cx_hart.specs.Step.{NeedsValue, Outcome, Stepped, ValueLeft, blank, ended_in, machine_in, taken_or_left}
 use Rattle.cx_hart.specs.Step.{unless_left}
 use Rattle.cx_hart.specs.Surroundings.{Surroundings}
-use Rattle.cx_hart.specs.Turn.{turn}
+use Rattle.cx_hart.specs.Turn.{executed, turn}
+use Rattle.cx_hart.specs.declared.answer.Went.TheVariants as went
 use Rattle.cx_hart.specs.declared.answer.Asked.{Asked}
 use Rattle.cx_hart.specs.declared.findings.Retired.{Retired}
 use Rattle.cx_hart.specs.declared.findings.Stop.TheVariants.{Asks, Interrupt, Trap}
@@ -22,14 +26,14 @@ use Rattle.cx_hart.proofs.Keepable.{FitsGiven, IsKeepable}
 use Rattle.cx_hart.proofs.Keeping.{keeps_after, keeps_trap}
 use Rattle.cx_hart.proofs.Stops.{Comes}
 use Rattle.cx_hart.proofs.Telling.{told_value}
-use Rattle.cx_hart.proofs.Turns.{turn_comes}
+use Rattle.cx_hart.proofs.Turns.{executed_comes, turn_comes}
 
 -- ---- a turn that is carried out, and one that leaves its value
 
-module _ (memory : List ℕ) (s : State) (looks : List Look) where
+module _ (memory : List ℕ) (s : State) (looks : List Look) (before : StepRec) where
   -- what a turn that ended so comes to
   abbrev by_end : End Retired → Outcome
-  by_end p = ended_in (record { state = s; memory = memory }) (told looks (blank s)) p
+  by_end p = ended_in (machine s memory) (told looks before) p
 
   pub asked_outcome : (given : Option ℕ) (p : End Retired) (what : Asked) → asked_of p ≡ Some what
       → unless_left given (by_end p) ≡ NeedsValue what
@@ -38,17 +42,18 @@ module _ (memory : List ℕ) (s : State) (looks : List Look) where
   asked_outcome given (Err (Interrupt number)) what e = absurd cc
   asked_outcome given (Err (Trap cause tval)) what e = absurd cc
 
-  pub left_outcome : (given : Option ℕ) (p : End Retired) → asked_of p ≡ None → is_left given p ≡ true
+  pub left_outcome : (given : Option ℕ) (p : End Retired) → before.value ≡ None → asked_of p ≡ None
+      → is_left given p ≡ true
       → unless_left given (by_end p) ≡ ValueLeft
-  left_outcome None p never left = absurd cc
-  left_outcome (Some v) (Ok r) never left = by r.value refl
+  left_outcome None p none never left = absurd cc
+  left_outcome (Some v) (Ok r) none never left = by r.value refl
     where
       by : (o : Option ℕ) → r.value ≡ o → unless_left (Some v) (by_end (Ok r)) ≡ ValueLeft
       by None e = rw e refl
       by (Some t) e = absurd (let wrong : false ≡ true = rw e at left in cc)
-  left_outcome (Some v) (Err (Asks what)) never left = absurd cc
-  left_outcome (Some v) (Err (Interrupt number)) never left = rw (told_value looks (blank s)) refl
-  left_outcome (Some v) (Err (Trap cause tval)) never left = rw (told_value looks (blank s)) refl
+  left_outcome (Some v) (Err (Asks what)) none never left = absurd cc
+  left_outcome (Some v) (Err (Interrupt number)) none never left = rw (told_value looks before, none) refl
+  left_outcome (Some v) (Err (Trap cause tval)) none never left = rw (told_value looks before, none) refl
 
   pub carried_outcome : (given : Option ℕ) (p : End Retired) → asked_of p ≡ None → is_left given p ≡ false
       → unless_left given (by_end p) ≡ by_end p
@@ -94,6 +99,14 @@ turn_end here p k bytes fits e never =
     (subst (Comes (IsKeepable (pages_of here.memory) (length here.memory) here.state)) (sym e)
     (turn_comes (pages_of here.memory) here k fits bytes refl)) never
 
+pub executed_end : (here : Surroundings) (word : ℕ) (i : Ins) (p : End Retired)
+    → Keeps (pages_of here.memory) here.state → AreBytes here.memory → FitsGiven here.given → word < 2 ^ 32
+    → WellFormed i → p ≡ (executed here word i).end → asked_of p ≡ None → IsEnd (length here.memory) here.state p
+executed_end here word i p k bytes fits small formed e never =
+    end_of (pages_of here.memory) here.memory here.state p
+    (subst (Comes (IsKeepable (pages_of here.memory) (length here.memory) here.state)) (sym e)
+    (executed_comes (pages_of here.memory) here k fits bytes refl word i small formed)) never
+
 -- ---- the state behind it keeps the rules
 
 abbrev KeepsAfter : ℕ → Outcome → Type 0
@@ -116,6 +129,15 @@ turn_keeps here after old rec k bytes fits e =
     subst (KeepsAfter (pages_of here.memory)) (sym e)
     (outcome_keeps (pages_of here.memory) (machine_in here) old (turn here).end k
     (turn_comes (pages_of here.memory) here k fits bytes refl))
+
+-- A step that was carried out keeps the rules of the state.
+pub goes_keeps : (Known : StepRec → Type 0) (here : Surroundings) (after : MachineState)
+    → Keeps (pages_of here.memory) here.state → AreBytes here.memory → FitsGiven here.given
+    → Goes Known went.Stepped (machine_in here) after (outcome_from here (blank here.state) (turn here))
+    → Keeps (pages_of here.memory) after.state
+goes_keeps Known here after k bytes fits (rec, (e, known)) =
+    turn_keeps here after (told (turn here).looks (blank here.state)) rec k bytes fits
+    (sym (unless_kept here.given _ after rec e))
 
 -- ---- lines
 

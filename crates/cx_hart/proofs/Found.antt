@@ -16,7 +16,8 @@ use Rattle.cx_hart.specs.Reaching.{first_length, goes_on, is_naturally_aligned, 
 use Rattle.cx_hart.specs.Reaching.{reached_part, reached_rest, reached_split, reached_whole, second_address, target_at}
 use Rattle.cx_ram.specs.PhysicalMemory.{IsAccessLength}
 use Rattle.cx_hart.specs.Phases.{Phase}
-use Rattle.cx_hart.specs.Stretches.{IsPart, IsRest, IsSized, IsSizedRest, IsStretch, IsTarget}
+use Rattle.cx_walk.specs.declared.kind.Kind.{Kind}
+use Rattle.cx_hart.specs.Stretches.{IsOutside, IsPart, IsRest, IsSized, IsSizedRest, IsStretch, IsTarget}
 use Rattle.cx_hart.specs.Surroundings.{Surroundings}
 use Rattle.cx_hart.specs.declared.findings.Part.{Part}
 use Rattle.cx_hart.specs.declared.findings.Target.{Target}
@@ -173,6 +174,38 @@ module _ (here : Surroundings) where
         (λ apart. either P (is_split here.split n) _ _ (λ parts. split_inside) (λ traps. tt))
 
 -- ---- the same of what was found
+
+ram_part : (here : Surroundings) (kind : Kind) (va len place : ℕ) (r : Result Place ℕ) → (len ≡ 1) ⊎ (len ≡ 2)
+    ⊎ (len ≡ 4) → IfOk r (IsFound (pages_of here.memory) kind len) → Ok (Ram place) ≡ place_or_trap va r
+    → IsStretch (length here.memory) place len
+ram_part here kind va len place (Err cause) lengths found e = absurd cc
+ram_part here kind va len place (Ok (Device other)) lengths found e = absurd cc
+ram_part here kind va len place (Ok (Ram other)) lengths found e =
+    let same : other ≡ place = cc in
+    subst (λ p. IsStretch (length here.memory) p len) same (ram_stretch here.memory len other lengths found)
+
+device_part : (here : Surroundings) (kind : Kind) (va len place : ℕ) (r : Result Place ℕ)
+    → IfOk r (IsFound (pages_of here.memory) kind len) → Ok (Device place) ≡ place_or_trap va r
+    → IsOutside place len
+device_part here kind va len place (Err cause) found e = absurd cc
+device_part here kind va len place (Ok (Ram other)) found e = absurd cc
+device_part here kind va len place (Ok (Device other)) found e =
+    let same : other ≡ place = cc in
+    subst (λ p. IsOutside p len) same (record { below = device_below other found.word; whole = found.whole })
+
+pub translated_ram : (here : Surroundings) (kind : Kind) (va len place : ℕ) → (len ≡ 1) ⊎ (len ≡ 2) ⊎ (len ≡ 4)
+    → va % len ≡ 0 → Ok (Ram place) ≡ (translated here kind va len).end → IsStretch (length here.memory) place len
+unfolding translated
+translated_ram here kind va len place lengths aligned e =
+    ram_part here kind va len place (walk_in here kind va len).answer lengths
+    (walk_in_found here kind va len lengths aligned) e
+
+pub translated_device : (here : Surroundings) (kind : Kind) (va len place : ℕ) → (len ≡ 1) ⊎ (len ≡ 2) ⊎ (len ≡ 4)
+    → va % len ≡ 0 → Ok (Device place) ≡ (translated here kind va len).end → IsOutside place len
+unfolding translated
+translated_device here kind va len place lengths aligned e =
+    device_part here kind va len place (walk_in here kind va len).answer
+    (walk_in_found here kind va len lengths aligned) e
 
 pub fetched_part : (here there : Surroundings) (place : Place) (address : ℕ) → there ≡ here → here.state.pc % 4 ≡ 0
     → Ok place ≡ (translated here Fetch there.state.pc 4).end → address ≡ address_of place

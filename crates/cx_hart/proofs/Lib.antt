@@ -3,7 +3,9 @@ pub mod Padded
 pub mod WalkFacts
 pub mod Costs
 pub mod Telling
+pub mod GoingOn
 pub mod BareWalks
+pub mod QuickTold
 pub mod Found
 pub mod TouchBytes
 pub mod SplitValues
@@ -16,8 +18,13 @@ pub mod Formed
 pub mod Turns
 pub mod Keeping
 pub mod Ends
+pub mod Goings
+pub mod Beginnings
 pub mod Transfers
 pub mod Parts
+pub mod Rows
+pub mod Plain
+pub mod Arms
 pub mod Writes
 pub mod StepSizes
 pub mod StepKeeps

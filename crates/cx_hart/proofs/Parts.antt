@@ -13,7 +13,7 @@ use Rattle.cx_hart.specs.declared.findings.Target.{Target}
 use Rattle.cx_hart.specs.declared.findings.Target.TheVariants.{Memory, Device}
 use Rattle.cx_hart.proofs.Padded.{take_front}
 
-low_length : (len value : ℕ) → length (low_bytes len value) ≡ len
+pub low_length : (len value : ℕ) → length (low_bytes len value) ≡ len
 unfolding low_bytes
 low_length zero value = refl
 low_length (suc len) value = ap suc (low_length len (value / 256))

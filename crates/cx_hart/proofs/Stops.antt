@@ -1,5 +1,6 @@
 -- A step that ends early ends in a cause that the hart has, and tells a word.
-use Rattle.std.proofs.Common.{ℕ, ◌+◌, ◌-◌, ◌^◌, ◌<◌, inl, inr, Option, Some, Result, Ok, Err, IfOk, IfErr, IsTrue, refl}
+use Rattle.std.proofs.Common.{◌≡◌, ℕ, ◌+◌, ◌-◌, ◌^◌, ◌<◌, inl, inr, Option, Some, Result, Ok, Err, IfOk, IfErr, IsTrue}
+use Rattle.std.proofs.Common.{refl}
 use Rattle.std.proofs.Common.{sym, subst, arith}
 use Rattle.cx_exec.specs.declared.asks.Access.{Access}
 use Rattle.cx_exec.specs.declared.asks.Access.TheVariants as access
@@ -11,6 +12,7 @@ use Rattle.cx_walk.specs.declared.kind.Kind.{Kind}
 use Rattle.cx_walk.specs.declared.kind.Kind.TheVariants as kind
 use Rattle.cx_walk.specs.declared.walk.Place.{Place}
 use Rattle.cx_walk.proofs.Branches.{either}
+use Rattle.cx_hart.specs.Conclude.{IsCause}
 use Rattle.cx_hart.specs.Ends.{End, found, ◌>>=◌}
 use Rattle.cx_hart.specs.Fetch.{place_or_trap, translated, walk_in}
 use Rattle.cx_hart.specs.Phases.{Phase}
@@ -29,6 +31,11 @@ abbrev pub IsStop : Stop → Type 0
 IsStop (Asks what) = Unit {0}
 IsStop (Interrupt number) = IsTrue (is_cause (number + 2 ^ 31))
 IsStop (Trap cause tval) = IsTrue (is_cause cause) × (tval < 2 ^ 32)
+
+pub stop_cause : (stop : Stop) → IsStop stop → IsCause stop
+stop_cause (Asks what) is = tt
+stop_cause (Interrupt number) is = is
+stop_cause (Trap cause tval) is = is.0
 
 -- what holds of what a phase finds, and of where it ends
 abbrev pub Comes : {Y : Type 0} → (Y → Type 0) → End Y → Type 0
@@ -81,6 +88,11 @@ module _ (here : Surroundings) where
   pub translated_stops : (k : Kind) (va len : ℕ) → va < 2 ^ 32 → IfErr (translated here k va len).end IsStop
   unfolding translated
   translated_stops k va len small = place_stops k va (walk_in here k va len).answer small (walk_in_faults here k va len)
+
+  pub translated_cause : (k : Kind) (va len : ℕ) (stop : Stop) → va < 2 ^ 32
+      → Err stop ≡ (translated here k va len).end → IsCause stop
+  translated_cause k va len stop small e =
+      stop_cause stop (subst (λ p. IfErr p IsStop) (sym e) (translated_stops k va len small))
 
   module _ (n : Need) (small : n.va < 2 ^ 32) where
     whole_stops : IfErr (reached_whole here n).end IsStop

@@ -225,7 +225,7 @@ module _ (pages : ℕ) (here : Surroundings) (k : Keeps pages here.state) (fits 
         formed
     need_comes word i (Some n) small formed needs = accessed_comes pages here k bytes fits i n same formed needs
 
-    executed_comes : (word : ℕ) (i : Ins) → word < 2 ^ 32 → WellFormed i → Comes Kept (executed here word i).end
+    pub executed_comes : (word : ℕ) (i : Ins) → word < 2 ^ 32 → WellFormed i → Comes Kept (executed here word i).end
     unfolding executed
     executed_comes word i small formed =
         need_comes word i (need_of (ask_of i here.state.pc here.state.x)) small formed

@@ -7,6 +7,7 @@ use Rattle.cx_hart.specs.Ends.{End}
 use Rattle.cx_hart.specs.Stretches.{IsReady}
 use Rattle.cx_hart.specs.declared.answer.Asked.{Asked}
 use Rattle.cx_hart.specs.declared.findings.Retired.{Retired}
+use Rattle.cx_hart.specs.declared.findings.Stop.{Stop}
 use Rattle.cx_hart.specs.declared.findings.Stop.TheVariants.{Asks, Interrupt, Trap}
 
 -- the value that it asks for, which isn't due
@@ -24,6 +25,12 @@ value_taken (Err stop) = None
 -- A value is due that it doesn't take.
 abbrev pub is_left : Option ℕ → End Retired → Bool
 is_left given ended = is_some given && is_none (value_taken ended)
+
+-- It ends in a cause of the hart, or asks for a value.
+abbrev pub IsCause : Stop → Type 0
+IsCause (Asks what) = Unit {0}
+IsCause (Interrupt number) = IsTrue (is_cause (interrupt_cause number))
+IsCause (Trap cause tval) = IsTrue (is_cause cause)
 
 -- The turn can be carried out: it asks for nothing that isn't due, and ends in a cause of the hart or with an
 -- instruction whose changes can be made.

@@ -1,11 +1,13 @@
 -- From a virtual address to what stands there (Privileged 1.12, 4.3.2), and the fetch of an instruction.
-use Rattle.std.specs.Prelude.{ℕ, List, take, map, unwrap_or, Result, Ok, Err}
+use Rattle.std.specs.Prelude.{◌≡◌, ℕ, List, take, map, unwrap_or, Some, Result, Ok, Err}
 use Rattle.cx_walk.specs.declared.kind.Kind.{Kind}
 use Rattle.cx_walk.specs.declared.kind.Kind.TheVariants.{Fetch}
 use Rattle.cx_walk.specs.declared.walk.Place.{Place}
 use Rattle.cx_walk.specs.declared.walk.Walk.{Walk}
 use Rattle.cx_walk.specs.Bytes.{ram_bytes, word_in}
+use Rattle.cx_walk.specs.Quick.{quick_walk}
 use Rattle.cx_walk.specs.Walks.{address_of, walk_of}
+use Rattle.cx_walk.specs.declared.quickly.QuickWalk.{QuickWalk}
 use Rattle.cx_machine.specs.Machine.{pages_of}
 use Rattle.cx_hart.specs.Ends.{End, found as found_at, trap as ends_in_trap}
 use Rattle.cx_hart.specs.Looks.{Look, Entry, Word}
@@ -32,6 +34,12 @@ look_at memory place = Entry place (entry_at memory place)
 -- the entries that a walk reads, in order
 abbrev pub walk_looks : List ℕ → Walk → List Look
 walk_looks memory walk = map (look_at memory) (take walk.count walk.places)
+
+-- A walk by one look gives the walk of the access, and the entries that it read.
+pub record IsQuick (here : Surroundings) (kind : Kind) (va len : ℕ) (q : QuickWalk) : Type 0 where
+  pub walk : walk_in here kind va len ≡ quick_walk q
+  pub first : word_in (ram_bytes here.memory) q.first ≡ Some q.first_entry
+  pub second : word_in (ram_bytes here.memory) q.second ≡ Some q.second_entry
 
 -- A fault is a trap that tells the virtual address (3.1.16, 4.1.9).
 abbrev pub place_or_trap : ℕ → Result Place ℕ → End Place

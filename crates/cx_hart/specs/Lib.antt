@@ -13,10 +13,12 @@ pub mod Accesses
 pub mod Control
 pub mod System
 pub mod Turn
+pub mod Begin
 pub mod Counters
 pub mod After
 pub mod Step
 pub mod HartStep
 pub mod Reads
 pub mod Conclude
+pub mod Outcomes
 pub mod WellFormed

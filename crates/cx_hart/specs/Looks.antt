@@ -26,3 +26,7 @@ tell (Rest t) rec = record rec { read_more = Some t }
 abbrev pub told : List Look → StepRec → StepRec
 told [] rec = rec
 told (look ∷ looks) rec = told looks (tell look rec)
+
+-- Who knew a record knows it with these looks told too.
+abbrev pub Learns : (StepRec → Type 0) → (StepRec → Type 0) → List Look → Type 0
+Learns Before After looks = (r : StepRec) → Before r → After (told looks r)

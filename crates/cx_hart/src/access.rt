@@ -6,7 +6,7 @@ ghost use Rattle.cx_hart.specs.Accesses.{access_done, accessed, bytes_of, first_
 ghost use Rattle.cx_hart.specs.Accesses.{joined, outcome_at, outer_reading, reading_of, reservation_after};
 ghost use Rattle.cx_hart.specs.Accesses.{second_write};
 ghost use Rattle.cx_hart.specs.Ends.{answered};
-ghost use Rattle.cx_hart.specs.Looks.{told};
+ghost use Rattle.cx_hart.specs.Looks.{Learns};
 ghost use Rattle.cx_hart.specs.Stretches.{IsSized, IsSizedRest, IsTarget};
 
 use crate::answer::Asked;
@@ -14,7 +14,8 @@ use crate::effect::{instruction_effect, retired_with};
 use crate::findings::{Part, Reading, Retired, Stop, Target};
 use crate::here::Here;
 use crate::reach::reached;
-use crate::record::{StepRec, Touch};
+use crate::record::Touch;
+use crate::tells::Tells;
 use crate::touch::{part_value, touch};
 use cx_csr::State;
 use cx_decode::Ins;
@@ -69,15 +70,15 @@ fn joined(first: Part, more: Part, low: u32, high: u32) -> u32
 /// What a load, an LR or an AMO reads.
 #[inline(never)]
 #[tactic(auto, unfolding(crate::specs::Accesses::bytes_of))]
-fn bytes_of(here: &Here, target: Target, rec: &mut StepRec) -> Result<Reading, Stop>
+fn bytes_of<R: Tells>(here: &Here, target: Target, rec: &mut R) -> Result<Reading, Stop>
     requires { IsTarget (length here.now.memory) target }
     ensures reading { result ≡ (bytes_of here.now target).end }
-    ensures told { rec.new ≡ told (bytes_of here.now target).looks rec.old }
+    ensures told { Learns (R.knows rec.old) (R.knows rec.new) (bytes_of here.now target).looks }
 {
     match target {
         Target::Memory { first, more: None } => {
             let low = part_value(here.ram, first);
-            rec.read = Some(touch(first, low));
+            rec.first(touch(first, low));
             Ok(inner_reading(Got::Bytes(low)))
         }
         Target::Memory {
@@ -85,14 +86,14 @@ fn bytes_of(here: &Here, target: Target, rec: &mut StepRec) -> Result<Reading, S
             more: Some(more),
         } => {
             let low = part_value(here.ram, first);
-            rec.read = Some(touch(first, low));
+            rec.first(touch(first, low));
             let high = part_value(here.ram, more);
-            rec.read_more = Some(touch(more, high));
+            rec.rest(touch(more, high));
             Ok(inner_reading(Got::Bytes(joined(first, more, low, high))))
         }
         Target::Device(part) => {
             let value = answered(here.given, Asked::Device(part.pa))?;
-            rec.read = Some(touch(part, value));
+            rec.first(touch(part, value));
             Ok(outer_reading(Got::Bytes(value), value))
         }
     }
@@ -112,15 +113,15 @@ fn first_place(target: Target) -> u32
 /// What the access gives to its instruction.
 #[inline]
 #[tactic(auto, unfolding(crate::specs::Accesses::reading_of))]
-fn reading_of(
+fn reading_of<R: Tells>(
     here: &Here,
     access: Access,
     target: Target,
-    rec: &mut StepRec,
+    rec: &mut R,
 ) -> Result<Reading, Stop>
     requires { IsTarget (length here.now.memory) target }
     ensures reading { result ≡ (reading_of here.now access target).end }
-    ensures told { rec.new ≡ told (reading_of here.now access target).looks rec.old }
+    ensures told { Learns (R.knows rec.old) (R.knows rec.new) (reading_of here.now access target).looks }
 {
     match access {
         Access::Load | Access::Reserve | Access::Amo => bytes_of(here, target, rec),
@@ -216,17 +217,17 @@ fn access_done(
 /// An instruction that accesses memory.
 #[inline]
 #[tactic(auto, unfolding(crate::specs::Accesses::accessed), using(crate::proofs::Found::reached_target, crate::proofs::Found::reached_sized, crate::proofs::Telling::told_append))]
-pub(crate) fn accessed(
+pub(crate) fn accessed<R: Tells>(
     here: &Here,
     ins: &Ins,
     need: Need,
-    rec: &mut StepRec,
+    rec: &mut R,
 ) -> Result<Retired, Stop>
     requires formed { WellFormed ins.now }
     requires length { (need.len ≡ 1) ⊎ (need.len ≡ 2) ⊎ (need.len ≡ 4) }
-    requires room { rec.old.walked + 4 ≤ 6 }
+    requires room { 4 ≤ R.room rec.old }
     ensures retired { result ≡ (accessed here.now ins.now need).end }
-    ensures told { rec.new ≡ told (accessed here.now ins.now need).looks rec.old }
+    ensures told { Learns (R.knows rec.old) (R.knows rec.new) (accessed here.now ins.now need).looks }
 {
     let target = reached(here, need, rec)?;
     let reading = reading_of(here, need.access, target, rec)?;

@@ -6,6 +6,7 @@ ghost use Rattle.cx_ram.specs.LittleEndian.{written};
 ghost use Rattle.cx_trap.specs.Causes.{is_cause};
 ghost use Rattle.cx_hart.specs.After.{after_control, after_retired, after_trap, memory_after, memory_after_touch};
 ghost use Rattle.cx_hart.specs.Counters.{with_cycle, with_retired, writes_one_of};
+ghost use Rattle.cx_hart.specs.Outcomes.{passed_to};
 ghost use Rattle.cx_hart.specs.Stretches.{IsLegal, IsStretch, IsWritable};
 
 use crate::findings::{Control, Retired};
@@ -105,6 +106,19 @@ pub(crate) fn retire(state: &mut State, retired: &Retired)
     count(state, control);
 }
 
+/// Leaves the state behind an instruction that changes pc and a register alone.
+#[inline(always)]
+#[tactic(auto, unfolding(crate::specs::After::after_retired))]
+pub(crate) fn pass_to(state: &mut State, pc: u32, rd: u8, value: u32)
+    requires { rd < 32 }
+    ensures { state.new ≡ passed_to pc rd value state.old }
+{
+    state.pc = pc;
+    put(&mut state.x, rd, value);
+    state.csr.mcycle = state.csr.mcycle.wrapping_add(1);
+    state.csr.minstret = state.csr.minstret.wrapping_add(1);
+}
+
 /// Writes the bytes of a touch to their place in RAM.
 #[inline(never)]
 #[tactic(auto, using(crate::proofs::TouchBytes::stored_touch))]
@@ -113,6 +127,7 @@ fn store(ram: &mut Ram, touch: Touch)
     requires room { 1 ≤ ram.old.spare }
     ensures memory { ram.new.memory ≡ written ram.old.memory (ram_index touch.pa) (take touch.len touch.bytes) }
     ensures size { length ram.new.memory ≡ length ram.old.memory }
+    ensures saved { ram.new.saved ≡ ram.old.saved }
     ensures spare { ram.old.spare ≤ ram.new.spare + 1 }
 {
     ram.store(touch.pa, touch.len, u32::from_le_bytes(touch.bytes));
@@ -126,6 +141,7 @@ fn write_touch(ram: &mut Ram, touch: Option<Touch>)
     requires room { 1 ≤ ram.old.spare }
     ensures memory { ram.new.memory ≡ memory_after_touch touch ram.old.memory }
     ensures size { length ram.new.memory ≡ length ram.old.memory }
+    ensures saved { ram.new.saved ≡ ram.old.saved }
     ensures spare { ram.old.spare ≤ ram.new.spare + 1 }
 {
     if let Some(touch) = touch {
@@ -143,6 +159,7 @@ pub(crate) fn write_both(ram: &mut Ram, retired: &Retired)
     requires room { 2 ≤ ram.old.spare }
     ensures memory { ram.new.memory ≡ memory_after retired.now ram.old.memory }
     ensures size { length ram.new.memory ≡ length ram.old.memory }
+    ensures saved { ram.new.saved ≡ ram.old.saved }
     ensures spare { ram.old.spare ≤ ram.new.spare + 2 }
 {
     write_touch(ram, retired.write);

@@ -8,6 +8,7 @@
 
 use crate::answer::Asked;
 use crate::record::Touch;
+use cx_decode::{Group, Ins};
 use cx_exec::{Effect, Got};
 
 /// Why a step ends before its instruction retires.
@@ -22,6 +23,14 @@ pub(crate) enum Stop {
     Interrupt(u32),
     /// It takes an exception, with the address or the word that it is taken for.
     Trap { cause: u32, tval: u32 },
+}
+
+/// An instruction that is to be carried out: its word, and what is known of it.
+#[derive(Clone, Copy, Debug, PartialEq, Eq)]
+pub(crate) struct Going {
+    pub word: u32,
+    pub ins: Ins,
+    pub group: Group,
 }
 
 /// Bytes of an access that lie in one page: their virtual address, their place in RAM, and how many they are.

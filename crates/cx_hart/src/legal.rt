@@ -1,15 +1,17 @@
 //! Which words are instructions, and which of these the mode bars.
 
 ghost use Rattle.std.specs.Prelude.{◌≡◌, IfOk};
+ghost use Rattle.cx_decode.specs.Groups.{group_of};
 ghost use Rattle.cx_decode.specs.WellFormed.{WellFormed};
-ghost use Rattle.cx_hart.specs.Legal.{illegal, instruction, is_barred};
+ghost use Rattle.cx_hart.specs.Begin.{going_of};
+ghost use Rattle.cx_hart.specs.Legal.{is_barred};
 
-use crate::findings::Stop;
+use crate::findings::{Going, Stop};
 use cx_csr::causes::ILLEGAL_INSTRUCTION;
 use cx_csr::modes::{MACHINE, SUPERVISOR, USER};
 use cx_csr::status::{TVM, TW};
 use cx_csr::{State, is_bit_set};
-use cx_decode::{Ins, Op, decode};
+use cx_decode::{Decoder, Op};
 
 /// The stop of an illegal instruction.
 #[inline]
@@ -23,13 +25,19 @@ pub(crate) fn illegal(word: u32) -> Stop
 }
 
 /// The instruction that a word spells.
-#[inline]
-pub(crate) fn instruction(word: u32) -> Result<Ins, Stop>
-    ensures instruction { result ≡ instruction word }
-    ensures formed { IfOk result WellFormed }
+#[inline(always)]
+#[tactic(auto, using(crate::proofs::Beginnings::going_known, crate::proofs::Beginnings::going_none))]
+pub(crate) fn going(decoder: &mut Decoder, word: u32) -> Result<Going, Stop>
+    ensures going { result ≡ going_of word }
+    ensures formed { IfOk result (λ g. WellFormed g.ins) }
+    ensures group { IfOk result (λ g. g.group ≡ group_of g.ins.op) }
 {
-    match decode(word) {
-        Some(ins) => Ok(ins),
+    match decoder.decode(word) {
+        Some(known) => Ok(Going {
+            word,
+            ins: known.ins,
+            group: known.group,
+        }),
         None => Err(illegal(word)),
     }
 }

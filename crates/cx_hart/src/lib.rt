@@ -10,6 +10,7 @@
 mod access;
 mod after;
 mod answer;
+mod carry;
 mod conclude;
 mod control;
 mod effect;
@@ -19,11 +20,13 @@ mod here;
 mod laws;
 mod legal;
 mod machine;
+mod moment;
 mod reach;
 mod record;
 mod steps;
 mod system;
 mod tell;
+mod tells;
 #[cfg(test)]
 mod tests;
 mod touch;
@@ -37,5 +40,6 @@ pub use laws::{
     transfers_come_first,
 };
 pub use machine::Machine;
+pub use moment::Moment;
 pub use record::{Ended, StepRec, Touch};
 pub use steps::Steps;

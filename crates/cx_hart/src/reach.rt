@@ -1,14 +1,14 @@
 //! Where the bytes of an access stand.
 
 ghost use Rattle.std.specs.Prelude.{◌≡◌, ◌+◌, ◌-◌, ◌%◌, ◌<◌, ◌≤◌, ◌⊎◌};
-ghost use Rattle.cx_hart.specs.Looks.{told};
+ghost use Rattle.cx_hart.specs.Looks.{Learns};
 ghost use Rattle.cx_hart.specs.Reaching.{first_length, is_plain, kind_of, misaligned_cause, reached, reached_part};
 ghost use Rattle.cx_hart.specs.Reaching.{reached_split, reached_whole};
 
 use crate::fetch::{address_of, translated};
 use crate::findings::{Part, Stop, Target};
 use crate::here::Here;
-use crate::record::StepRec;
+use crate::tells::Tells;
 use cx_csr::causes::{LOAD_ADDRESS_MISALIGNED, STORE_ADDRESS_MISALIGNED};
 use cx_exec::{Access, Need};
 use cx_map::PAGE_SIZE;
@@ -47,12 +47,12 @@ fn is_plain(access: Access) -> bool
 /// Where an aligned access stands.
 #[inline]
 #[tactic(auto, unfolding(crate::specs::Reaching::reached_whole), using(crate::proofs::Telling::told_append))]
-fn reach_whole(here: &Here, need: Need, rec: &mut StepRec) -> Result<Target, Stop>
+fn reach_whole<R: Tells>(here: &Here, need: Need, rec: &mut R) -> Result<Target, Stop>
     requires length { (need.len ≡ 1) ⊎ (need.len ≡ 2) ⊎ (need.len ≡ 4) }
     requires aligned { need.va % need.len ≡ 0 }
-    requires room { rec.old.walked + 2 ≤ 6 }
+    requires room { 2 ≤ R.room rec.old }
     ensures target { result ≡ (reached_whole here.now need).end }
-    ensures told { rec.new ≡ told (reached_whole here.now need).looks rec.old }
+    ensures told { Learns (R.knows rec.old) (R.knows rec.new) (reached_whole here.now need).looks }
 {
     let Need { access, va, len } = need;
     let place = translated(here, kind_of(access), va, len, rec)?;
@@ -67,11 +67,17 @@ fn reach_whole(here: &Here, need: Need, rec: &mut StepRec) -> Result<Target, Sto
 
 /// Where a part of an access that is split by pages stands.
 #[tactic(auto, using(crate::proofs::Telling::told_append))]
-fn reach_part(here: &Here, need: Need, va: u32, len: u8, rec: &mut StepRec) -> Result<Part, Stop>
-    requires room { rec.old.walked + 2 ≤ 6 }
+fn reach_part<R: Tells>(
+    here: &Here,
+    need: Need,
+    va: u32,
+    len: u8,
+    rec: &mut R,
+) -> Result<Part, Stop>
+    requires room { 2 ≤ R.room rec.old }
     ensures part { result ≡ (reached_part here.now need va len).end }
-    ensures told { rec.new ≡ told (reached_part here.now need va len).looks rec.old }
-    ensures room { rec.new.walked ≤ rec.old.walked + 2 }
+    ensures told { Learns (R.knows rec.old) (R.knows rec.new) (reached_part here.now need va len).looks }
+    ensures room { R.room rec.old ≤ R.room rec.new + 2 }
 {
     let place = translated(here, kind_of(need.access), va, 1, rec)?;
     Ok(Part {
@@ -97,11 +103,11 @@ fn first_length(need: Need) -> u8
 /// Where an access stands that is split by pages.
 #[cold]
 #[tactic(auto, unfolding(crate::specs::Reaching::reached_split), using(crate::proofs::Telling::told_append))]
-fn reach_split(here: &Here, need: Need, rec: &mut StepRec) -> Result<Target, Stop>
+fn reach_split<R: Tells>(here: &Here, need: Need, rec: &mut R) -> Result<Target, Stop>
     requires length { need.len ≤ 4 }
-    requires room { rec.old.walked + 4 ≤ 6 }
+    requires room { 4 ≤ R.room rec.old }
     ensures target { result ≡ (reached_split here.now need).end }
-    ensures told { rec.new ≡ told (reached_split here.now need).looks rec.old }
+    ensures told { Learns (R.knows rec.old) (R.knows rec.new) (reached_split here.now need).looks }
 {
     let length = first_length(need);
     let first = reach_part(here, need, need.va, length, rec)?;
@@ -119,11 +125,11 @@ fn reach_split(here: &Here, need: Need, rec: &mut StepRec) -> Result<Target, Sto
 /// Where an access stands, or the trap that it ends in.
 #[inline]
 #[tactic(auto, unfolding(crate::specs::Reaching::reached))]
-pub(crate) fn reached(here: &Here, need: Need, rec: &mut StepRec) -> Result<Target, Stop>
+pub(crate) fn reached<R: Tells>(here: &Here, need: Need, rec: &mut R) -> Result<Target, Stop>
     requires length { (need.len ≡ 1) ⊎ (need.len ≡ 2) ⊎ (need.len ≡ 4) }
-    requires room { rec.old.walked + 4 ≤ 6 }
+    requires room { 4 ≤ R.room rec.old }
     ensures target { result ≡ (reached here.now need).end }
-    ensures told { rec.new ≡ told (reached here.now need).looks rec.old }
+    ensures told { Learns (R.knows rec.old) (R.knows rec.new) (reached here.now need).looks }
 {
     if need.va % need.len as u32 == 0 {
         return reach_whole(here, need, rec);

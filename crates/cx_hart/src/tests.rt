@@ -10,3 +10,4 @@ mod record;
 mod reserved;
 mod space;
 mod values;
+mod ways;

@@ -1,20 +1,22 @@
-//! One turn of the hart, up to where it ends.
+//! One turn of the hart: where it begins, and an instruction carried out as far as nothing changes.
 
-ghost use Rattle.std.specs.Prelude.{◌≡◌, ◌+◌, ◌%◌, ◌≤◌};
+ghost use Rattle.std.specs.Prelude.{◌≡◌, ◌%◌, ◌≤◌, IfOk};
+ghost use Rattle.cx_decode.specs.Groups.{group_of};
 ghost use Rattle.cx_decode.specs.WellFormed.{WellFormed};
 ghost use Rattle.cx_exec.specs.Asking.{ask_of};
-ghost use Rattle.cx_hart.specs.Looks.{told};
-ghost use Rattle.cx_hart.specs.Turn.{done_without_access, executed, turn};
+ghost use Rattle.cx_hart.specs.Begin.{begun};
+ghost use Rattle.cx_hart.specs.Looks.{Learns};
+ghost use Rattle.cx_hart.specs.Turn.{done_without_access, executed};
 
 use crate::access::accessed;
 use crate::control::controlled;
 use crate::fetch::fetched;
-use crate::findings::{Retired, Stop};
+use crate::findings::{Going, Retired, Stop};
 use crate::here::Here;
-use crate::legal::instruction;
-use crate::record::StepRec;
+use crate::legal::going;
 use crate::system::{computed, system};
-use cx_decode::Ins;
+use crate::tells::Tells;
+use cx_decode::{Decoder, Ins};
 use cx_exec::{Ask, ask};
 use cx_trap::pending;
 
@@ -38,11 +40,16 @@ fn done_without_access(here: &Here, word: u32, ins: &Ins, ask: Ask) -> Result<Re
 /// An instruction carried out.
 #[inline]
 #[tactic(auto, unfolding(crate::specs::Turn::executed), using(crate::proofs::Needs::need_length))]
-fn executed(here: &Here, word: u32, ins: &Ins, rec: &mut StepRec) -> Result<Retired, Stop>
+pub(crate) fn executed<R: Tells>(
+    here: &Here,
+    word: u32,
+    ins: &Ins,
+    rec: &mut R,
+) -> Result<Retired, Stop>
     requires formed { WellFormed ins.now }
-    requires room { rec.old.walked + 4 ≤ 6 }
+    requires room { 4 ≤ R.room rec.old }
     ensures retired { result ≡ (executed here.now word ins.now).end }
-    ensures told { rec.new ≡ told (executed here.now word ins.now).looks rec.old }
+    ensures told { Learns (R.knows rec.old) (R.knows rec.new) (executed here.now word ins.now).looks }
 {
     let ask = ask(ins, here.state.pc, &here.state.x);
     if let Some(need) = ask.need() {
@@ -51,19 +58,25 @@ fn executed(here: &Here, word: u32, ins: &Ins, rec: &mut StepRec) -> Result<Reti
     done_without_access(here, word, ins, ask)
 }
 
-/// One turn: an interrupt is to be taken, or one instruction is fetched and carried out, as far as nothing changes.
-#[inline]
-#[tactic(auto, unfolding(crate::specs::Turn::turn), using(crate::proofs::Telling::told_append))]
-pub(crate) fn turn(here: &Here, rec: &mut StepRec) -> Result<Retired, Stop>
+/// The instruction that a turn carries out, unless an interrupt is to be taken or its fetch ends in a trap.
+#[inline(always)]
+#[tactic(auto, unfolding(crate::specs::Begin::begun), using(crate::proofs::Telling::told_append))]
+pub(crate) fn begun<R: Tells>(
+    here: &Here,
+    decoder: &mut Decoder,
+    rec: &mut R,
+) -> Result<Going, Stop>
     requires aligned { here.now.state.pc % 4 ≡ 0 }
-    requires fresh { rec.old.walked ≡ 0 }
-    ensures retired { result ≡ (turn here.now).end }
-    ensures told { rec.new ≡ told (turn here.now).looks rec.old }
+    requires room { 6 ≤ R.room rec.old }
+    ensures going { result ≡ (begun here.now).end }
+    ensures told { Learns (R.knows rec.old) (R.knows rec.new) (begun here.now).looks }
+    ensures room { 4 ≤ R.room rec.new }
+    ensures formed { IfOk result (λ g. WellFormed g.ins) }
+    ensures group { IfOk result (λ g. g.group ≡ group_of g.ins.op) }
 {
     if let Some(number) = pending(here.state) {
         return Err(Stop::Interrupt(number));
     }
     let word = fetched(here, rec)?;
-    let ins = instruction(word)?;
-    executed(here, word, &ins, rec)
+    going(decoder, word)
 }

@@ -30,14 +30,32 @@ impl<'a> Words for View<'a> {
         self.ram.pages()
     }
 
-    #[tactic(auto, using(crate::proofs::RamWords::word_beyond))]
+    // An aligned place below the end of RAM has its whole word there, since RAM is whole pages: one comparison tells.
+    #[inline(always)]
+    #[tactic(auto, using(crate::proofs::RamWords::word_inside))]
     fn word(&self, pa: u64) -> Option<u32> {
-        let end = u64::from(RAM_START) + u64::from(self.ram.pages()) * PAGE_SIZE as u64;
-        if pa > end - 4 {
-            return None;
+        let start = u64::from(RAM_START);
+        let size = u64::from(self.ram.pages()) * PAGE_SIZE as u64;
+        if pa % 4 == 0 && start <= pa && pa - start < size {
+            return Some(self.ram.load(pa as u32, 4));
         }
-        word_of(self.ram, pa as u32)
+        any_word(self.ram, pa)
     }
+}
+
+/// The word at a place that may be any.
+#[cold]
+#[inline(never)]
+#[tactic(auto, using(crate::proofs::RamWords::word_beyond))]
+fn any_word(ram: &Ram, pa: u64) -> Option<u32>
+    ensures word { result ≡ word_in (ram_bytes ram.now.memory) pa }
+    ensures below { OnSome result (pa + 4 ≤ 2 ^ 32) }
+{
+    let end = u64::from(RAM_START) + u64::from(ram.pages()) * PAGE_SIZE as u64;
+    if pa > end - 4 {
+        return None;
+    }
+    word_of(ram, pa as u32)
 }
 
 /// The word at a place, where all of it lies in RAM.

@@ -1,6 +1,6 @@
 //! Writing a recording to a sink, record by record.
 
-ghost use Rattle.std.specs.Prelude.{◌≡◌, ◌+◌, ◌<◌, ◌≤◌, [], ◌++◌, false, OnOk, IfOk, IsTrue};
+ghost use Rattle.std.specs.Prelude.{◌≡◌, ◌+◌, ◌<◌, ◌≤◌, [], ◌++◌, false, OnOk, OnErr, IfOk, IsTrue};
 ghost use Rattle.cx_codec.specs.Puts.{Finishes, Puts, Starts, onto};
 ghost use Rattle.cx_codec.specs.Varint.{varint};
 ghost use Rattle.cx_ram.specs.PhysicalMemory.{is_zero};
@@ -95,6 +95,7 @@ impl LogWriter {
             (onto self.old.output (T.held sink.old) (T.faults sink.old)) (onto self.new.output (T.held sink.new)
             (T.faults sink.new)) result }
         ensures turned { OnOk result ((self.new.least ≡ number + 1) × (self.new.left + 1 ≡ self.old.left)) }
+        ensures refused { OnErr result ((self.new.least ≡ self.old.least) × (self.new.left ≡ self.old.left)) }
         ensures same { (self.new.header ≡ self.old.header) × (self.new.behind ≡ self.old.behind) }
     {
         put_page(&mut self.out, number, bytes, sink)?;
@@ -130,6 +131,7 @@ impl LogWriter {
           event =
               dma_event bytes.now place;
         })) }
+        ensures refused { OnErr result (self.new.behind ≡ self.old.behind) }
         ensures same { (self.new.header ≡ self.old.header) × (self.new.left ≡ self.old.left)
             × (self.new.least ≡ self.old.least) }
     {
@@ -153,6 +155,7 @@ impl LogWriter {
             (onto self.old.output (T.held sink.old) (T.faults sink.old)) (onto self.new.output (T.held sink.new)
             (T.faults sink.new)) result }
         ensures behind { OnOk result (self.new.behind ≡ behind_entry self.old.behind (entry_of [] item.now)) }
+        ensures refused { OnErr result (self.new.behind ≡ self.old.behind) }
         ensures same { (self.new.header ≡ self.old.header) × (self.new.left ≡ self.old.left)
             × (self.new.least ≡ self.old.least) }
     {

@@ -6,3 +6,4 @@ pub mod Sharing
 pub mod Owning
 pub mod Saving
 pub mod Starting
+pub mod Distinct

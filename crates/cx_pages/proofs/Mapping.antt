@@ -35,7 +35,7 @@ map_once f h h' (g ∷ table) (suc i) once here e same =
     rw (same g other, rest) refl
 
 -- A saved table that doesn't name it.
-pub saved_other : (f : ℕ) (old new : List (List (List ℕ))) (table : List ℕ) → names f table ≡ 0
+pub saved_other : (f : ℕ) (old new : List (List ℕ)) (table : List ℕ) → names f table ≡ 0
     → ((g : ℕ) → g ≢ f → frame_of new g ≡ frame_of old g)
     → saved_of new table ≡ saved_of old table
 saved_other f old new [] none same = refl
@@ -44,7 +44,7 @@ saved_other f old new (g ∷ table) none same =
     ap some (map_other f (frame_of old) (frame_of new) (g ∷ table) none same)
 
 -- Saved tables that don't name it.
-pub all_saved_other : (f : ℕ) (old new : List (List (List ℕ))) (tables : List (List ℕ)) → all_names f tables ≡ 0
+pub all_saved_other : (f : ℕ) (old new : List (List ℕ)) (tables : List (List ℕ)) → all_names f tables ≡ 0
     → ((g : ℕ) → g ≢ f → frame_of new g ≡ frame_of old g)
     → map (saved_of new) tables ≡ map (saved_of old) tables
 all_saved_other f old new [] none same = refl
@@ -63,7 +63,7 @@ map_kept h h' (g ∷ table) same =
     let rest = map_kept h h' table (λ i here. same (suc i) (omega arith)) in
     rw (first, rest) refl
 
-pub saved_kept : (old new : List (List (List ℕ))) (table : List ℕ)
+pub saved_kept : (old new : List (List ℕ)) (table : List ℕ)
     → ((i : ℕ) → i < length table → frame_of new (get_or table i 0) ≡ frame_of old (get_or table i 0))
     → saved_of new table ≡ saved_of old table
 saved_kept old new [] same = refl
@@ -71,7 +71,7 @@ saved_kept old new (g ∷ table) same =
     let some : List (List ℕ) → Option Memory = λ pages. Some (record { pages = pages; stamps = g ∷ table }) in
     ap some (map_kept (frame_of old) (frame_of new) (g ∷ table) same)
 
-pub all_saved_kept : (old new : List (List (List ℕ))) (tables : List (List ℕ))
+pub all_saved_kept : (old new : List (List ℕ)) (tables : List (List ℕ))
     → ((n i : ℕ) → n < length tables → i < length (get_or tables n []) → frame_of new (get_or (get_or tables n []) i 0)
     ≡ frame_of old (get_or (get_or tables n []) i 0))
     → map (saved_of new) tables ≡ map (saved_of old) tables
@@ -82,20 +82,20 @@ all_saved_kept old new (table ∷ tables) same =
     rw (first, rest) refl
 
 -- The memory under a number is that of the table under it.
-pub saved_at-table : (chunks : List (List (List ℕ))) (tables : List (List ℕ)) (n : ℕ)
-    → get_or (map (saved_of chunks) tables) n None ≡ saved_of chunks (get_or tables n [])
-saved_at-table chunks [] n = refl
-saved_at-table chunks (table ∷ tables) zero = refl
-saved_at-table chunks (table ∷ tables) (suc n) = saved_at-table chunks tables n
+pub saved_at-table : (frames : List (List ℕ)) (tables : List (List ℕ)) (n : ℕ)
+    → get_or (map (saved_of frames) tables) n None ≡ saved_of frames (get_or tables n [])
+saved_at-table frames [] n = refl
+saved_at-table frames (table ∷ tables) zero = refl
+saved_at-table frames (table ∷ tables) (suc n) = saved_at-table frames tables n
 
 -- A table with a page stands for a memory.
-pub saved_of-some : (chunks : List (List (List ℕ))) (table : List ℕ) → 1 ≤ length table
-    → saved_of chunks table ≡ Some (memory_of chunks table)
-saved_of-some chunks [] some = absurd (omega arith)
-saved_of-some chunks (f ∷ table) some = refl
+pub saved_of-some : (frames : List (List ℕ)) (table : List ℕ) → 1 ≤ length table
+    → saved_of frames table ≡ Some (memory_of frames table)
+saved_of-some frames [] some = absurd (omega arith)
+saved_of-some frames (f ∷ table) some = refl
 
 -- A memory is that of its table.
-pub saved_of-is : (chunks : List (List (List ℕ))) (table : List ℕ) (memory : Memory)
-    → saved_of chunks table ≡ Some memory → (1 ≤ length table) × (memory_of chunks table ≡ memory)
-saved_of-is chunks [] memory e = cc
-saved_of-is chunks (f ∷ table) memory e = (omega arith, cc)
+pub saved_of-is : (frames : List (List ℕ)) (table : List ℕ) (memory : Memory)
+    → saved_of frames table ≡ Some memory → (1 ≤ length table) × (memory_of frames table ≡ memory)
+saved_of-is frames [] memory e = cc
+saved_of-is frames (f ∷ table) memory e = (omega arith, cc)

@@ -19,13 +19,13 @@ use Rattle.cx_pages.proofs.Mapping.{map_other, map_once, all_saved_other}
 use Rattle.cx_pages.proofs.Sharing.{shared_from_count, count_from_shared}
 
 -- The frame of a page that isn't shared has one name.
-pub own_count : (chunks : List (List (List ℕ))) (tally : Tally) (current : List ℕ) (tables : List (List ℕ)) (page : ℕ)
-    → IsPool chunks tally current tables → page < length current → ¬ IsShared (memories_of chunks tally current tables)
+pub own_count : (frames : List (List ℕ)) (tally : Tally) (current : List ℕ) (tables : List (List ℕ)) (page : ℕ)
+    → IsPool frames tally current tables → page < length current → ¬ IsShared (memories_of frames tally current tables)
     page → count_of tally.counts (get_or current page 0) ≡ 1
-own_count chunks tally current tables page p here own =
+own_count frames tally current tables page p here own =
     elim (cases_eq (count_of tally.counts (get_or current page 0)) 1) [
       | inl one ↦ one
-      | inr more ↦ absurd (own (shared_from_count chunks tally current tables page p here more))
+      | inr more ↦ absurd (own (shared_from_count frames tally current tables page p here more))
     ]
 
 -- What a frame with one name is not, and where it isn't named.
@@ -34,10 +34,10 @@ pub record IsOwn (current : List ℕ) (tables : List (List ℕ)) (page : ℕ) : 
   pub once : names (get_or current page 0) current ≡ 1
   pub never : all_names (get_or current page 0) tables ≡ 0
 
-pub own_names : (chunks : List (List (List ℕ))) (tally : Tally) (current : List ℕ) (tables : List (List ℕ)) (page : ℕ)
-    → IsPool chunks tally current tables → page < length current → count_of tally.counts (get_or current page 0) ≡ 1
+pub own_names : (frames : List (List ℕ)) (tally : Tally) (current : List ℕ) (tables : List (List ℕ)) (page : ℕ)
+    → IsPool frames tally current tables → page < length current → count_of tally.counts (get_or current page 0) ≡ 1
     → IsOwn current tables page
-own_names chunks tally current tables page p here one =
+own_names frames tally current tables page p here one =
     let f : ℕ = get_or current page 0 in
     let named = names_here f current page here refl in
     record {
@@ -47,12 +47,12 @@ own_names chunks tally current tables page p here one =
     }
 
 -- The pool after the bytes of such a frame changed.
-pub written_pool : (chunks chunks' : List (List (List ℕ))) (tally : Tally) (current : List ℕ) (tables : List (List ℕ))
+pub written_pool : (frames frames' : List (List ℕ)) (tally : Tally) (current : List ℕ) (tables : List (List ℕ))
     (page : ℕ)
-    → IsPool chunks tally current tables → IsOwn current tables page → length chunks' ≡ length chunks
-    → ((g : ℕ) → g ≢ get_or current page 0 → frame_of chunks' g ≡ frame_of chunks g)
-    → IsPool chunks' tally current tables
-written_pool chunks chunks' tally current tables page p own size same = record {
+    → IsPool frames tally current tables → IsOwn current tables page → length frames' ≡ length frames
+    → ((g : ℕ) → g ≢ get_or current page 0 → frame_of frames' g ≡ frame_of frames g)
+    → IsPool frames' tally current tables
+written_pool frames frames' tally current tables page p own size same = record {
   zeros = same 0 (λ e. own.other (sym e)) ∙ p.zeros;
   counted = p.counted;
   some = p.some;
@@ -64,22 +64,22 @@ written_pool chunks chunks' tally current tables page p own size same = record {
 }
 
 -- What is seen of it: the bytes of one page changed.
-pub written_pages : (chunks chunks' : List (List (List ℕ))) (current : List ℕ) (tables : List (List ℕ)) (page : ℕ)
+pub written_pages : (frames frames' : List (List ℕ)) (current : List ℕ) (tables : List (List ℕ)) (page : ℕ)
     → page < length current → IsOwn current tables page
-    → ((g : ℕ) → g ≢ get_or current page 0 → frame_of chunks' g ≡ frame_of chunks g)
-    → map (frame_of chunks') current ≡ set (map (frame_of chunks) current) page
-    (frame_of chunks' (get_or current page 0))
-written_pages chunks chunks' current tables page here own same =
-    map_once (get_or current page 0) (frame_of chunks) (frame_of chunks') current page own.once here refl same
+    → ((g : ℕ) → g ≢ get_or current page 0 → frame_of frames' g ≡ frame_of frames g)
+    → map (frame_of frames') current ≡ set (map (frame_of frames) current) page
+    (frame_of frames' (get_or current page 0))
+written_pages frames frames' current tables page here own same =
+    map_once (get_or current page 0) (frame_of frames) (frame_of frames') current page own.once here refl same
 
-pub written_saved : (chunks chunks' : List (List (List ℕ))) (current : List ℕ) (tables : List (List ℕ)) (page : ℕ)
-    → IsOwn current tables page → ((g : ℕ) → g ≢ get_or current page 0 → frame_of chunks' g ≡ frame_of chunks g)
-    → map (saved_of chunks') tables ≡ map (saved_of chunks) tables
-written_saved chunks chunks' current tables page own same = all_saved_other (get_or current page 0) chunks chunks'
+pub written_saved : (frames frames' : List (List ℕ)) (current : List ℕ) (tables : List (List ℕ)) (page : ℕ)
+    → IsOwn current tables page → ((g : ℕ) → g ≢ get_or current page 0 → frame_of frames' g ≡ frame_of frames g)
+    → map (saved_of frames') tables ≡ map (saved_of frames) tables
+written_saved frames frames' current tables page own same = all_saved_other (get_or current page 0) frames frames'
     tables own.never same
 
 -- A page that is shared gets the frame g, which had no name, with the bytes of the frame that it had.
-pub record Taken (chunks chunks' : List (List (List ℕ))) (tally tally' : Tally) (current : List ℕ) (page g : ℕ) : Type 0
+pub record Taken (frames frames' : List (List ℕ)) (tally tally' : Tally) (current : List ℕ) (page g : ℕ) : Type 0
   where
     pub there : g < length tally.counts
     pub unused : count_of tally.counts g ≡ 0
@@ -87,9 +87,9 @@ pub record Taken (chunks chunks' : List (List (List ℕ))) (tally tally' : Tally
     pub counts : tally'.counts ≡ set (set tally.counts g 1) (get_or current page 0)
         (count_of (set tally.counts g 1) (get_or current page 0) - 1)
     pub spare : tally'.spare + 1 ≡ tally.spare
-    pub size : length chunks' ≡ length chunks
-    pub copy : frame_of chunks' g ≡ frame_of chunks (get_or current page 0)
-    pub others : (f : ℕ) → f ≢ g → frame_of chunks' f ≡ frame_of chunks f
+    pub size : length frames' ≡ length frames
+    pub copy : frame_of frames' g ≡ frame_of frames (get_or current page 0)
+    pub others : (f : ℕ) → f ≢ g → frame_of frames' f ≡ frame_of frames f
 
 -- A frame that is taken isn't one with names.
 pub taken_kept : (counts : List ℕ) (f g : ℕ) → 2 ≤ count_of counts f → count_of counts g ≡ 0
@@ -98,7 +98,7 @@ taken_kept counts f g more unused =
     get_or-set_other counts g f 1 0 (λ e. let none : count_of counts f ≡ 0 =
     subst (λ (x : ℕ). count_of counts x ≡ 0) (sym e) unused in omega arith)
 
-module _ (chunks chunks' : List (List (List ℕ))) (tally tally' : Tally) (current : List ℕ) (tables : List (List ℕ))
+module _ (frames frames' : List (List ℕ)) (tally tally' : Tally) (current : List ℕ) (tables : List (List ℕ))
     (page g : ℕ) where
   abbrev from : ℕ
   from = get_or current page 0
@@ -106,8 +106,8 @@ module _ (chunks chunks' : List (List (List ℕ))) (tally tally' : Tally) (curre
   abbrev after : List ℕ
   after = set current page g
 
-  module _ (p : IsPool chunks tally current tables) (here : page < length current)
-      (t : Taken chunks chunks' tally tally' current page g) where
+  module _ (p : IsPool frames tally current tables) (here : page < length current)
+      (t : Taken frames frames' tally tally' current page g) where
     g≢from : g ≢ from
     g≢from e = let none : count_of tally.counts from ≡ 0 = subst (λ (f : ℕ). count_of tally.counts f ≡ 0) e t.unused in
         omega (arith, t.more)
@@ -204,7 +204,7 @@ module _ (chunks chunks' : List (List (List ℕ))) (tally tally' : Tally) (curre
     counts_size : length tally'.counts ≡ length tally.counts
     counts_size = rw t.counts (length-set (set tally.counts g 1) from _ ∙ length-set tally.counts g 1)
 
-    pub taken_pool : IsPool chunks' tally' after tables
+    pub taken_pool : IsPool frames' tally' after tables
     taken_pool = record {
       zeros = t.others 0 (λ e. g≢0 (sym e)) ∙ p.zeros;
       counted = counted_after;
@@ -216,22 +216,22 @@ module _ (chunks chunks' : List (List (List ℕ))) (tally tally' : Tally) (curre
       homes = homes_after;
     }
 
-    pub taken_pages : map (frame_of chunks') after ≡ map (frame_of chunks) current
+    pub taken_pages : map (frame_of frames') after ≡ map (frame_of frames) current
     taken_pages =
-        map-set_same (frame_of chunks') current page g 0 (t.copy ∙ sym (t.others from (λ e. g≢from (sym e))))
-        ∙ map_other g (frame_of chunks) (frame_of chunks') current g_names t.others
+        map-set_same (frame_of frames') current page g 0 (t.copy ∙ sym (t.others from (λ e. g≢from (sym e))))
+        ∙ map_other g (frame_of frames) (frame_of frames') current g_names t.others
 
-    pub taken_saved : map (saved_of chunks') tables ≡ map (saved_of chunks) tables
-    taken_saved = all_saved_other g chunks chunks' tables g_all_names t.others
+    pub taken_saved : map (saved_of frames') tables ≡ map (saved_of frames) tables
+    taken_saved = all_saved_other g frames frames' tables g_all_names t.others
 
-    pub taken_own : HasOwn page (memories_of chunks tally current tables) (memories_of chunks' tally' after tables)
+    pub taken_own : HasOwn page (memories_of frames tally current tables) (memories_of frames' tally' after tables)
     taken_own =
         let at : get_or after page 0 ≡ g = get_or-set_same current page g 0 here in
         record {
           saved = taken_saved;
           stamps = ap (set current page) (sym at);
           own = λ shared.
-              let more = count_from_shared chunks' tally' after tables page taken_pool (rw size_after here) shared in
+              let more = count_from_shared frames' tally' after tables page taken_pool (rw size_after here) shared in
               let one : count_of tally'.counts (get_or after page 0) ≡ 1 = ap (count_of tally'.counts) at
               ∙ omega (
                 arith,
@@ -246,7 +246,7 @@ module _ (chunks chunks' : List (List (List ℕ))) (tally tally' : Tally) (curre
               omega arith;
           first = λ shared. (omega (arith, counts_size, t.spare, p.some), t.spare);
           again = λ own. absurd
-              (own (shared_from_count chunks tally current tables page p here (λ e. omega (arith, t.more))));
+              (own (shared_from_count frames tally current tables page p here (λ e. omega (arith, t.more))));
         }
 
 -- Whether a page is shared depends on its stamps alone.

@@ -16,10 +16,10 @@ use Rattle.cx_pages.proofs.Naming.{extra_names-zero, extra_names-other}
 use Rattle.cx_pages.proofs.Mapping.{saved_at-table}
 
 -- Counts have room for the names of one table more.
-pub room_for_table : (chunks : List (List (List ℕ))) (tally : Tally) (current : List ℕ) (tables : List (List ℕ))
+pub room_for_table : (frames : List (List ℕ)) (tally : Tally) (current : List ℕ) (tables : List (List ℕ))
     (table : List ℕ) (f : ℕ)
-    → IsPool chunks tally current tables → length table ≤ 262144 → count_of tally.counts f + names f table < 2 ^ 64
-room_for_table chunks tally current tables table f p short =
+    → IsPool frames tally current tables → length table ≤ 262144 → count_of tally.counts f + names f table < 2 ^ 64
+room_for_table frames tally current tables table f p short =
     let short' : All (λ t. length t ≤ 262144) tables = λ k d here.
     elim (p.sizes k d here) [
       | inl none ↦ let nil : length (get_or tables k d) ≡ 0 = rw none refl in
@@ -39,14 +39,14 @@ room_for_table chunks tally current tables table f p short =
     omega (arith, p.counted f, p.size.most)
 
 -- A saved table is restored.
-pub restored_pool : (chunks : List (List (List ℕ))) (tally tally' : Tally) (current : List ℕ) (tables : List (List ℕ))
+pub restored_pool : (frames : List (List ℕ)) (tally tally' : Tally) (current : List ℕ) (tables : List (List ℕ))
     (n : ℕ)
-    → IsPool chunks tally current tables → n < length tables → length (get_or tables n []) ≡ length current
+    → IsPool frames tally current tables → n < length tables → length (get_or tables n []) ≡ length current
     → ((f : ℕ) → count_of tally'.counts f + names f current ≡ count_of tally.counts f + names f (get_or tables n []))
     → length tally'.counts ≡ length tally.counts → ((f : ℕ) → 1 ≤ count_of tally'.counts f
     → tally'.spare < length tally'.counts)
-    → IsPool chunks tally' (get_or tables n []) tables
-restored_pool chunks tally tally' current tables n p there size counts same left =
+    → IsPool frames tally' (get_or tables n []) tables
+restored_pool frames tally tally' current tables n p there size counts same left =
     let counted : (f : ℕ) → count_of tally'.counts f ≡ extra_names f + names f (get_or tables n []) + all_names f
     tables = λ f. omega (arith, p.counted f, counts f) in
     record {
@@ -65,14 +65,14 @@ restored_pool chunks tally tally' current tables n p there size counts same left
     }
 
 -- A saved table is forgotten.
-pub forgotten_pool : (chunks : List (List (List ℕ))) (tally tally' : Tally) (current : List ℕ) (tables : List (List ℕ))
+pub forgotten_pool : (frames : List (List ℕ)) (tally tally' : Tally) (current : List ℕ) (tables : List (List ℕ))
     (n : ℕ)
-    → IsPool chunks tally current tables → n < length tables
+    → IsPool frames tally current tables → n < length tables
     → ((f : ℕ) → count_of tally'.counts f + names f (get_or tables n []) ≡ count_of tally.counts f)
     → length tally'.counts ≡ length tally.counts → ((f : ℕ) → 1 ≤ count_of tally'.counts f
     → tally'.spare < length tally'.counts)
-    → IsPool chunks tally' current (set tables n [])
-forgotten_pool chunks tally tally' current tables n p there counts same left =
+    → IsPool frames tally' current (set tables n [])
+forgotten_pool frames tally tally' current tables n p there counts same left =
     let counted : (f : ℕ) → count_of tally'.counts f ≡ extra_names f + names f current + all_names f (set tables n []) =
     λ f.
     omega (arith, p.counted f, counts f, all_names-set f tables n [] there, names-nil f) in
@@ -92,13 +92,13 @@ forgotten_pool chunks tally tally' current tables n p there counts same left =
     }
 
 -- The current table is saved in the place of an empty one.
-pub saved_pool : (chunks : List (List (List ℕ))) (tally tally' : Tally) (current : List ℕ) (tables : List (List ℕ))
+pub saved_pool : (frames : List (List ℕ)) (tally tally' : Tally) (current : List ℕ) (tables : List (List ℕ))
     (n : ℕ)
-    → IsPool chunks tally current tables → n < length tables → get_or tables n [] ≡ []
+    → IsPool frames tally current tables → n < length tables → get_or tables n [] ≡ []
     → ((f : ℕ) → count_of tally'.counts f ≡ count_of tally.counts f + names f current)
     → length tally'.counts ≡ length tally.counts → tally'.spare ≡ tally.spare
-    → IsPool chunks tally' current (set tables n current)
-saved_pool chunks tally tally' current tables n p there empty counts same spare =
+    → IsPool frames tally' current (set tables n current)
+saved_pool frames tally tally' current tables n p there empty counts same spare =
     let none : (f : ℕ) → names f (get_or tables n []) ≡ 0 = λ f. rw empty (names-nil f) in
     record {
       zeros = p.zeros;
@@ -116,9 +116,9 @@ saved_pool chunks tally tally' current tables n p there empty counts same spare 
     }
 
 -- An empty table is added.
-pub pushed_pool : (chunks : List (List (List ℕ))) (tally : Tally) (current : List ℕ) (tables : List (List ℕ))
-    → IsPool chunks tally current tables → length tables < MOST_SAVED → IsPool chunks tally current (tables ++ [] ∷ [])
-pushed_pool chunks tally current tables p few = record {
+pub pushed_pool : (frames : List (List ℕ)) (tally : Tally) (current : List ℕ) (tables : List (List ℕ))
+    → IsPool frames tally current tables → length tables < MOST_SAVED → IsPool frames tally current (tables ++ [] ∷ [])
+pushed_pool frames tally current tables p few = record {
   zeros = p.zeros;
   counted = λ f. omega (arith, p.counted f, all_names-push f tables [], names-nil f);
   some = p.some;
@@ -134,40 +134,41 @@ pushed_pool chunks tally current tables p few = record {
 }
 
 -- What is seen under the number of a table that was set.
-pub saved_at-set : (chunks : List (List (List ℕ))) (tables : List (List ℕ)) (n : ℕ) (table : List ℕ) → n < length tables
-    → get_or (map (saved_of chunks) (set tables n table)) n None ≡ saved_of chunks table
-saved_at-set chunks tables n table there = saved_at-table chunks (set tables n table) n
-    ∙ ap (saved_of chunks) (get_or-set_same tables n table [] there)
+pub saved_at-set : (frames : List (List ℕ)) (tables : List (List ℕ)) (n : ℕ) (table : List ℕ) → n < length tables
+    → get_or (map (saved_of frames) (set tables n table)) n None ≡ saved_of frames table
+saved_at-set frames tables n table there = saved_at-table frames (set tables n table) n
+    ∙ ap (saved_of frames) (get_or-set_same tables n table [] there)
 
-pub saved_at-set_other : (chunks : List (List (List ℕ))) (tables : List (List ℕ)) (n : ℕ) (table : List ℕ) (other : ℕ)
+pub saved_at-set_other : (frames : List (List ℕ)) (tables : List (List ℕ)) (n : ℕ) (table : List ℕ) (other : ℕ)
     → other ≢ n
-    → get_or (map (saved_of chunks) (set tables n table)) other None ≡ get_or (map (saved_of chunks) tables) other None
-saved_at-set_other chunks tables n table other apart =
-    saved_at-table chunks (set tables n table) other
-    ∙ ap (saved_of chunks) (get_or-set_other tables n other table [] apart)
-    ∙ sym (saved_at-table chunks tables other)
+    → get_or (map (saved_of frames) (set tables n table)) other None ≡ get_or (map (saved_of frames) tables) other None
+saved_at-set_other frames tables n table other apart =
+    saved_at-table frames (set tables n table) other
+    ∙ ap (saved_of frames) (get_or-set_other tables n other table [] apart)
+    ∙ sym (saved_at-table frames tables other)
 
 -- An empty table shows as nothing.
-pub saved_at-push : (chunks : List (List (List ℕ))) (tables : List (List ℕ)) (number : ℕ)
-    → get_or (map (saved_of chunks) (tables ++ [] ∷ [])) number None ≡ get_or (map (saved_of chunks) tables) number None
-saved_at-push chunks [] zero = refl
-saved_at-push chunks [] (suc number) = refl
-saved_at-push chunks (table ∷ tables) zero = refl
-saved_at-push chunks (table ∷ tables) (suc number) = saved_at-push chunks tables number
+pub saved_at-push : (frames : List (List ℕ)) (tables : List (List ℕ)) (number : ℕ)
+    → get_or (map (saved_of frames) (tables ++ [] ∷ [])) number None ≡ get_or (map (saved_of frames) tables) number None
+saved_at-push frames [] zero = refl
+saved_at-push frames [] (suc number) = refl
+saved_at-push frames (table ∷ tables) zero = refl
+saved_at-push frames (table ∷ tables) (suc number) = saved_at-push frames tables number
 
 -- Where nothing is seen, the table is empty.
-pub empty_table : (chunks : List (List (List ℕ))) (table : List ℕ) → saved_of chunks table ≡ None → table ≡ []
-empty_table chunks [] e = refl
-empty_table chunks (f ∷ table) e = cc
+pub empty_table : (frames : List (List ℕ)) (table : List ℕ) → saved_of frames table ≡ None → table ≡ []
+empty_table frames [] e = refl
+empty_table frames (f ∷ table) e = cc
 
 -- Frames that come back are spare.
-pub gives_back : (chunks : List (List (List ℕ))) (tally tally' : Tally) (current current' : List ℕ)
+pub gives_back : (frames : List (List ℕ)) (tally tally' : Tally) (current current' : List ℕ)
     (tables tables' : List (List ℕ))
-    → IsPool chunks tally current tables → IsPool chunks tally' current' tables'
+    → IsPool frames tally current tables → IsPool frames tally' current' tables'
     → length tally'.counts ≡ length tally.counts → tally.spare ≤ tally'.spare
-    → GivesBack (memories_of chunks tally current tables) (memories_of chunks tally' current' tables')
-gives_back chunks tally tally' current current' tables tables' p p' same more = record {
-  used = omega arith;
-  spare = more;
+    → GivesBack (memories_of frames tally current tables).used tally.spare
+    (memories_of frames tally' current' tables').used tally'.spare
+gives_back frames tally tally' current current' tables tables' p p' same more = record {
+  fewer = omega arith;
+  more = more;
   sum = omega (arith, p.some, p'.some);
 }

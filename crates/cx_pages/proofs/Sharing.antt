@@ -1,12 +1,11 @@
 -- A page is shared exactly where its frame's count isn't 1.
-use Rattle.std.proofs.Common.{◌≡◌, ◌≢◌, ℕ, zero, suc, ◌*◌, ◌<◌, ◌≤◌, List, [], ◌∷◌, length, get_or, map, Some, refl}
+use Rattle.std.proofs.Common.{◌≡◌, ◌≢◌, ℕ, zero, suc, ◌<◌, ◌≤◌, List, [], ◌∷◌, length, get_or, map, Some, refl}
 use Rattle.std.proofs.Common.{sym, ap, ◌∙◌, subst, inl, inr, arith}
 use Rattle.std.specs.Prelude.{All, IsSome}
 use Rattle.std.proofs.lemmas.Bool.{cases_eq, cases_lt, false≢true}
 use Rattle.std.proofs.lemmas.List.{get_or-map, length-map}
 use Rattle.std.proofs.lemmas.List.Elements.{All-get_or, All-from_get_or}
-use Rattle.cx_pages.specs.declared.chunk.TheConstants.{CHUNK_FRAMES}
-use Rattle.cx_pages.specs.Frames.{frame_of, IsWhole, AreChunks}
+use Rattle.cx_pages.specs.Frames.{frame_of, IsWhole, AreFrames}
 use Rattle.cx_pages.proofs.Framing.{frame_whole}
 use Rattle.cx_pages.specs.Counts.{Tally, count_of}
 use Rattle.cx_pages.specs.Memories.{Memory, Memories, IsShared, IsLive, saved_at, page_count, page_of, AreWhole}
@@ -18,29 +17,29 @@ use Rattle.cx_pages.proofs.Naming.{extra_names-other}
 use Rattle.cx_pages.proofs.Mapping.{saved_at-table, saved_of-some, saved_of-is}
 
 -- The frame of a page has a name.
-pub entry_counted : (chunks : List (List (List ℕ))) (tally : Tally) (current : List ℕ) (tables : List (List ℕ))
+pub entry_counted : (frames : List (List ℕ)) (tally : Tally) (current : List ℕ) (tables : List (List ℕ))
     (page : ℕ)
-    → IsPool chunks tally current tables → page < length current → 1 ≤ count_of tally.counts (get_or current page 0)
-entry_counted chunks tally current tables page p here =
+    → IsPool frames tally current tables → page < length current → 1 ≤ count_of tally.counts (get_or current page 0)
+entry_counted frames tally current tables page p here =
     let f : ℕ = get_or current page 0 in
     let named = names_here f current page here refl in
     omega (arith, p.counted f)
 
 -- So does that of a saved page.
-pub saved_entry_counted : (chunks : List (List (List ℕ))) (tally : Tally) (current : List ℕ) (tables : List (List ℕ))
+pub saved_entry_counted : (frames : List (List ℕ)) (tally : Tally) (current : List ℕ) (tables : List (List ℕ))
     (n page : ℕ)
-    → IsPool chunks tally current tables → n < length tables → page < length (get_or tables n [])
+    → IsPool frames tally current tables → n < length tables → page < length (get_or tables n [])
     → 1 ≤ count_of tally.counts (get_or (get_or tables n []) page 0)
-saved_entry_counted chunks tally current tables n page p there here =
+saved_entry_counted frames tally current tables n page p there here =
     let f : ℕ = get_or (get_or tables n []) page 0 in
     let named = names_here f (get_or tables n []) page here refl in
     let le = names-le-all f tables n there in
     omega (arith, p.counted f)
 
 -- A frame with a name is in a chunk.
-pub counted_inside : (chunks : List (List (List ℕ))) (tally : Tally) (current : List ℕ) (tables : List (List ℕ)) (f : ℕ)
-    → IsPool chunks tally current tables → 1 ≤ count_of tally.counts f → f < CHUNK_FRAMES * length chunks
-counted_inside chunks tally current tables f p some = let here = count_inside tally.counts f some in
+pub counted_inside : (frames : List (List ℕ)) (tally : Tally) (current : List ℕ) (tables : List (List ℕ)) (f : ℕ)
+    → IsPool frames tally current tables → 1 ≤ count_of tally.counts f → f < length frames
+counted_inside frames tally current tables f p some = let here = count_inside tally.counts f some in
     omega (arith, p.covered)
 
 -- A table past the last is empty.
@@ -63,11 +62,11 @@ table_size current tables n sizes there some =
     ]
 
 -- A page whose frame has another name than this one is shared.
-pub shared_from_count : (chunks : List (List (List ℕ))) (tally : Tally) (current : List ℕ) (tables : List (List ℕ))
+pub shared_from_count : (frames : List (List ℕ)) (tally : Tally) (current : List ℕ) (tables : List (List ℕ))
     (page : ℕ)
-    → IsPool chunks tally current tables → page < length current → count_of tally.counts (get_or current page 0) ≢ 1
-    → IsShared (memories_of chunks tally current tables) page
-shared_from_count chunks tally current tables page p here more =
+    → IsPool frames tally current tables → page < length current → count_of tally.counts (get_or current page 0) ≢ 1
+    → IsShared (memories_of frames tally current tables) page
+shared_from_count frames tally current tables page p here more =
     let f : ℕ = get_or current page 0 in
     elim (cases_eq f 0) [
       | inl none ↦ inl none
@@ -89,18 +88,18 @@ shared_from_count chunks tally current tables page p here more =
           let same : i ≡ page = sym one ∙ two in
           inr (record {
             number = n;
-            memory = memory_of chunks table;
-            live = saved_at-table chunks tables n ∙ saved_of-some chunks table (omega (arith, at.1.1.1));
+            memory = memory_of frames table;
+            live = saved_at-table frames tables n ∙ saved_of-some frames table (omega (arith, at.1.1.1));
             alike = ap (λ (k : ℕ). get_or table k 0) (sym same) ∙ e;
           })
     ]
 
 -- The frame of a page that is shared has more names than one.
-pub count_from_shared : (chunks : List (List (List ℕ))) (tally : Tally) (current : List ℕ) (tables : List (List ℕ))
+pub count_from_shared : (frames : List (List ℕ)) (tally : Tally) (current : List ℕ) (tables : List (List ℕ))
     (page : ℕ)
-    → IsPool chunks tally current tables → page < length current → IsShared (memories_of chunks tally current tables)
+    → IsPool frames tally current tables → page < length current → IsShared (memories_of frames tally current tables)
     page → 2 ≤ count_of tally.counts (get_or current page 0)
-count_from_shared chunks tally current tables page p here shared =
+count_from_shared frames tally current tables page p here shared =
     let f : ℕ = get_or current page 0 in
     let named = names_here f current page here refl in
     elim shared [
@@ -108,8 +107,8 @@ count_from_shared chunks tally current tables page p here shared =
       | inr kept ↦
           let n : ℕ = kept.number in
           let table : List ℕ = get_or tables n [] in
-          let is : (1 ≤ length table) × (memory_of chunks table ≡ kept.memory) =
-          saved_of-is chunks table kept.memory (sym (saved_at-table chunks tables n) ∙ kept.live) in
+          let is : (1 ≤ length table) × (memory_of frames table ≡ kept.memory) =
+          saved_of-is frames table kept.memory (sym (saved_at-table frames tables n) ∙ kept.live) in
           let there : n < length tables = table_inside tables n is.0 in
           let size = table_size current tables n p.sizes there is.0 in
           let e : get_or table page 0 ≡ f = ap (λ (m : Memory). get_or m.stamps page 0) is.1 ∙ kept.alike in
@@ -119,72 +118,72 @@ count_from_shared chunks tally current tables page p here shared =
     ]
 
 -- A page of the memory has a place in its table.
-pub page_inside : (chunks : List (List (List ℕ))) (tally : Tally) (current : List ℕ) (tables : List (List ℕ))
+pub page_inside : (frames : List (List ℕ)) (tally : Tally) (current : List ℕ) (tables : List (List ℕ))
     (m : Memories) (page : ℕ)
-    → memories_of chunks tally current tables ≡ m → page < page_count m.current → page < length current
-page_inside chunks tally current tables m page e here =
-    let within : page < length (map (frame_of chunks) current) = subst (λ (v : Memories). page < page_count v.current)
+    → memories_of frames tally current tables ≡ m → page < page_count m.current → page < length current
+page_inside frames tally current tables m page e here =
+    let within : page < length (map (frame_of frames) current) = subst (λ (v : Memories). page < page_count v.current)
     (sym e) here in
-    subst (λ (n : ℕ). page < n) (length-map current (frame_of chunks)) within
+    subst (λ (n : ℕ). page < n) (length-map current (frame_of frames)) within
 
 -- The bytes of a page are those of its frame.
-pub page_of-table : (chunks : List (List (List ℕ))) (table : List ℕ) (page : ℕ) → page < length table
-    → page_of (memory_of chunks table) page ≡ frame_of chunks (get_or table page 0)
-page_of-table chunks table page here = get_or-map (frame_of chunks) table page 0 [] here
+pub page_of-table : (frames : List (List ℕ)) (table : List ℕ) (page : ℕ) → page < length table
+    → page_of (memory_of frames table) page ≡ frame_of frames (get_or table page 0)
+page_of-table frames table page here = get_or-map (frame_of frames) table page 0 [] here
 
 -- What is known of a table under whose number a memory is saved.
-pub record HasTable (chunks : List (List (List ℕ))) (current : List ℕ) (tables : List (List ℕ)) (m : Memories)
+pub record HasTable (frames : List (List ℕ)) (current : List ℕ) (tables : List (List ℕ)) (m : Memories)
     (number : ℕ) : Type 0 where
   pub there : number < length tables
   pub size : length (get_or tables number []) ≡ length current
-  pub is : saved_at m number ≡ Some (memory_of chunks (get_or tables number []))
+  pub is : saved_at m number ≡ Some (memory_of frames (get_or tables number []))
 
-some_table : (chunks : List (List (List ℕ))) (table : List ℕ) → IsSome (saved_of chunks table) → 1 ≤ length table
-some_table chunks [] live = absurd (false≢true live)
-some_table chunks (f ∷ table) live = omega arith
+some_table : (frames : List (List ℕ)) (table : List ℕ) → IsSome (saved_of frames table) → 1 ≤ length table
+some_table frames [] live = absurd (false≢true live)
+some_table frames (f ∷ table) live = omega arith
 
-pub live_table : (chunks : List (List (List ℕ))) (tally : Tally) (current : List ℕ) (tables : List (List ℕ))
+pub live_table : (frames : List (List ℕ)) (tally : Tally) (current : List ℕ) (tables : List (List ℕ))
     (m : Memories) (number : ℕ)
-    → IsPool chunks tally current tables → memories_of chunks tally current tables ≡ m → IsLive m number
-    → HasTable chunks current tables m number
-live_table chunks tally current tables m number p e live =
+    → IsPool frames tally current tables → memories_of frames tally current tables ≡ m → IsLive m number
+    → HasTable frames current tables m number
+live_table frames tally current tables m number p e live =
     let table : List ℕ = get_or tables number [] in
-    let at : saved_at m number ≡ saved_of chunks table = ap (λ (v : Memories). saved_at v number) (sym e)
-    ∙ saved_at-table chunks tables number in
-    let some : 1 ≤ length table = some_table chunks table (subst IsSome at live) in
+    let at : saved_at m number ≡ saved_of frames table = ap (λ (v : Memories). saved_at v number) (sym e)
+    ∙ saved_at-table frames tables number in
+    let some : 1 ≤ length table = some_table frames table (subst IsSome at live) in
     let there : number < length tables = table_inside tables number some in
     record {
       there = there;
       size = table_size current tables number p.sizes there some;
-      is = at ∙ saved_of-some chunks table some;
+      is = at ∙ saved_of-some frames table some;
     }
 
 -- Each page is whole.
-pub pages_whole : (chunks : List (List (List ℕ))) (tally : Tally) (current : List ℕ) (tables : List (List ℕ))
-    → IsPool chunks tally current tables → AreChunks chunks → AreWhole (memory_of chunks current)
-pages_whole chunks tally current tables p whole =
-    All-from_get_or IsWhole (map (frame_of chunks) current) [] (λ i inside.
-    let here : i < length current = subst (λ (n : ℕ). i < n) (length-map current (frame_of chunks)) inside in
+pub pages_whole : (frames : List (List ℕ)) (tally : Tally) (current : List ℕ) (tables : List (List ℕ))
+    → IsPool frames tally current tables → AreFrames frames → AreWhole (memory_of frames current)
+pages_whole frames tally current tables p whole =
+    All-from_get_or IsWhole (map (frame_of frames) current) [] (λ i inside.
+    let here : i < length current = subst (λ (n : ℕ). i < n) (length-map current (frame_of frames)) inside in
     let f : ℕ = get_or current i 0 in
-    subst IsWhole (sym (page_of-table chunks current i here))
-    (frame_whole chunks f whole (counted_inside chunks tally current tables f p (entry_counted chunks tally current
+    subst IsWhole (sym (page_of-table frames current i here))
+    (frame_whole frames f whole (counted_inside frames tally current tables f p (entry_counted frames tally current
     tables i p here))))
 
 -- A memory is saved under a number where the table has pages.
-pub live_long : (chunks : List (List (List ℕ))) (tally : Tally) (current : List ℕ) (tables : List (List ℕ))
+pub live_long : (frames : List (List ℕ)) (tally : Tally) (current : List ℕ) (tables : List (List ℕ))
     (m : Memories) (number : ℕ)
-    → memories_of chunks tally current tables ≡ m → IsLive m number → 1 ≤ length (get_or tables number [])
-live_long chunks tally current tables m number e live =
-    some_table chunks (get_or tables number []) (subst IsSome (ap (λ (v : Memories). saved_at v number) (sym e)
-    ∙ saved_at-table chunks tables number) live)
+    → memories_of frames tally current tables ≡ m → IsLive m number → 1 ≤ length (get_or tables number [])
+live_long frames tally current tables m number e live =
+    some_table frames (get_or tables number []) (subst IsSome (ap (λ (v : Memories). saved_at v number) (sym e)
+    ∙ saved_at-table frames tables number) live)
 
-pub long_live : (chunks : List (List (List ℕ))) (tally : Tally) (current : List ℕ) (tables : List (List ℕ))
+pub long_live : (frames : List (List ℕ)) (tally : Tally) (current : List ℕ) (tables : List (List ℕ))
     (m : Memories) (number : ℕ)
-    → memories_of chunks tally current tables ≡ m → 1 ≤ length (get_or tables number []) → IsLive m number
-long_live chunks tally current tables m number e long =
-    let at : saved_at m number ≡ Some (memory_of chunks (get_or tables number []))
-    = ap (λ (v : Memories). saved_at v number) (sym e) ∙ saved_at-table chunks tables number
-    ∙ saved_of-some chunks (get_or tables number []) long in
+    → memories_of frames tally current tables ≡ m → 1 ≤ length (get_or tables number []) → IsLive m number
+long_live frames tally current tables m number e long =
+    let at : saved_at m number ≡ Some (memory_of frames (get_or tables number []))
+    = ap (λ (v : Memories). saved_at v number) (sym e) ∙ saved_at-table frames tables number
+    ∙ saved_of-some frames (get_or tables number []) long in
     rw at refl
 
 pub not_empty : (table : List ℕ) → table ≢ [] → 1 ≤ length table
@@ -192,21 +191,21 @@ not_empty [] other = absurd (other refl)
 not_empty (f ∷ table) other = omega arith
 
 -- So is each saved page.
-pub saved_whole : (chunks : List (List (List ℕ))) (tally : Tally) (current : List ℕ) (tables : List (List ℕ))
-    → IsPool chunks tally current tables → AreChunks chunks → AreSavedWhole (memories_of chunks tally current tables)
-saved_whole chunks tally current tables p whole n memory e =
+pub saved_whole : (frames : List (List ℕ)) (tally : Tally) (current : List ℕ) (tables : List (List ℕ))
+    → IsPool frames tally current tables → AreFrames frames → AreSavedWhole (memories_of frames tally current tables)
+saved_whole frames tally current tables p whole n memory e =
     let table : List ℕ = get_or tables n [] in
-    let is : (1 ≤ length table) × (memory_of chunks table ≡ memory) =
-    saved_of-is chunks table memory (sym (saved_at-table chunks tables n) ∙ e) in
+    let is : (1 ≤ length table) × (memory_of frames table ≡ memory) =
+    saved_of-is frames table memory (sym (saved_at-table frames tables n) ∙ e) in
     let there : n < length tables = table_inside tables n is.0 in
-    let pages : AreWhole (memory_of chunks table) = All-from_get_or IsWhole (map (frame_of chunks) table) []
+    let pages : AreWhole (memory_of frames table) = All-from_get_or IsWhole (map (frame_of frames) table) []
     (λ i inside.
-    let here : i < length table = subst (λ (k : ℕ). i < k) (length-map table (frame_of chunks)) inside in
+    let here : i < length table = subst (λ (k : ℕ). i < k) (length-map table (frame_of frames)) inside in
     let f : ℕ = get_or table i 0 in
-    subst IsWhole (sym (page_of-table chunks table i here))
-    (frame_whole chunks f whole (counted_inside chunks tally current tables f p
-    (saved_entry_counted chunks tally current tables n i p there here)))) in
-    let count : page_count (memory_of chunks table) ≡ page_count (memory_of chunks current)
-    = length-map table (frame_of chunks) ∙ table_size current tables n p.sizes there is.0
-    ∙ sym (length-map current (frame_of chunks)) in
-    (subst AreWhole is.1 pages, subst (λ (m : Memory). page_count m ≡ page_count (memory_of chunks current)) is.1 count)
+    subst IsWhole (sym (page_of-table frames table i here))
+    (frame_whole frames f whole (counted_inside frames tally current tables f p
+    (saved_entry_counted frames tally current tables n i p there here)))) in
+    let count : page_count (memory_of frames table) ≡ page_count (memory_of frames current)
+    = length-map table (frame_of frames) ∙ table_size current tables n p.sizes there is.0
+    ∙ sym (length-map current (frame_of frames)) in
+    (subst AreWhole is.1 pages, subst (λ (m : Memory). page_count m ≡ page_count (memory_of frames current)) is.1 count)

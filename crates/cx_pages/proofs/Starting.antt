@@ -1,12 +1,11 @@
 -- The first pool, and a pool with more frames.
-use Rattle.std.proofs.Common.{◌≡◌, ◌≢◌, ℕ, zero, suc, ◌+◌, ◌-◌, ◌*◌, ◌≤◌, List, [], ◌∷◌, ◌++◌, length, get_or, map}
+use Rattle.std.proofs.Common.{◌≡◌, ◌≢◌, ℕ, zero, suc, ◌+◌, ◌-◌, ◌≤◌, List, [], ◌∷◌, ◌++◌, length, get_or, map}
 use Rattle.std.proofs.Common.{take, replicate, Option, refl, sym, ap, ◌∙◌, subst, inl, inr, arith, length-append}
 use Rattle.std.proofs.lemmas.Bool.{cases_lt}
 use Rattle.std.proofs.lemmas.List.{length-replicate, get_or-replicate, get_or_append_left, get_or-append_right}
 use Rattle.std.proofs.lemmas.List.{get_or_past}
 use Rattle.std.proofs.lemmas.List.Elements.{All-nil}
 use Rattle.cx_map.specs.Map.{IsPageCount}
-use Rattle.cx_pages.specs.declared.chunk.TheConstants.{CHUNK_FRAMES}
 use Rattle.cx_pages.specs.Frames.{frame_of, zero_page}
 use Rattle.cx_pages.specs.Counts.{Tally, count_of}
 use Rattle.cx_pages.specs.Memories.{Memory, Memories}
@@ -37,10 +36,10 @@ first_counted pages (suc f) =
     all_names-nil (suc f) in omega arith
 
 -- Each page has the frame of zeros.
-pub first_pool : (chunks : List (List (List ℕ))) (tally : Tally) (pages : ℕ) → frame_of chunks 0 ≡ zero_page
-    → length chunks ≡ 1 → tally.counts ≡ (pages + 2) ∷ [] → tally.spare ≡ 0
-    → IsPageCount pages → IsPool chunks tally (replicate pages 0) []
-first_pool chunks tally pages zeros one counts none size =
+pub first_pool : (frames : List (List ℕ)) (tally : Tally) (pages : ℕ) → frame_of frames 0 ≡ zero_page
+    → length frames ≡ 1 → tally.counts ≡ (pages + 2) ∷ [] → tally.spare ≡ 0
+    → IsPageCount pages → IsPool frames tally (replicate pages 0) []
+first_pool frames tally pages zeros one counts none size =
     let few : length tally.counts ≡ 1 = rw counts refl in
     let length' : length (replicate {A = ℕ} pages 0) ≡ pages = length-replicate pages 0 in
     record {
@@ -59,10 +58,10 @@ first_pool chunks tally pages zeros one counts none size =
     }
 
 -- Each page is one of zeros.
-pub first_pages : (chunks : List (List (List ℕ))) (n : ℕ) → frame_of chunks 0 ≡ zero_page
-    → map (frame_of chunks) (replicate n 0) ≡ replicate n zero_page
-first_pages chunks zero zeros = refl
-first_pages chunks (suc n) zeros = let rest = first_pages chunks n zeros in rw (zeros, rest) refl
+pub first_pages : (frames : List (List ℕ)) (n : ℕ) → frame_of frames 0 ≡ zero_page
+    → map (frame_of frames) (replicate n 0) ≡ replicate n zero_page
+first_pages frames zero zeros = refl
+first_pages frames (suc n) zeros = let rest = first_pages frames n zeros in rw (zeros, rest) refl
 
 zeros_at : (n i : ℕ) → get_or (replicate {A = ℕ} n 0) i 0 ≡ 0
 zeros_at n i = elim (cases_lt i n) [
@@ -79,25 +78,25 @@ grown_count counts more f = elim (cases_lt f (length counts)) [
       ∙ zeros_at more (f - length counts) ∙ sym (get_or_past counts f 0 past)
 ]
 
-module _ (chunks chunks' : List (List (List ℕ))) (tally : Tally) (current : List ℕ) (tables : List (List ℕ))
-    (p : IsPool chunks tally current tables)
-    (kept : take (length chunks) chunks' ≡ chunks) where
+module _ (frames frames' : List (List ℕ)) (tally : Tally) (current : List ℕ) (tables : List (List ℕ))
+    (p : IsPool frames tally current tables)
+    (kept : take (length frames) frames' ≡ frames) where
   -- a frame with a name stays as it is
-  same_frame : (f : ℕ) → 1 ≤ count_of tally.counts f → frame_of chunks' f ≡ frame_of chunks f
-  same_frame f some = frame_kept chunks chunks' f kept (counted_inside chunks tally current tables f p some)
+  same_frame : (f : ℕ) → 1 ≤ count_of tally.counts f → frame_of frames' f ≡ frame_of frames f
+  same_frame f some = frame_kept frames frames' f kept (counted_inside frames tally current tables f p some)
 
-  pub grown_pages : map (frame_of chunks') current ≡ map (frame_of chunks) current
-  grown_pages = map_kept (frame_of chunks) (frame_of chunks') current (λ i here. same_frame (get_or current i 0)
-      (entry_counted chunks tally current tables i p here))
+  pub grown_pages : map (frame_of frames') current ≡ map (frame_of frames) current
+  grown_pages = map_kept (frame_of frames) (frame_of frames') current (λ i here. same_frame (get_or current i 0)
+      (entry_counted frames tally current tables i p here))
 
-  pub grown_saved : map (saved_of chunks') tables ≡ map (saved_of chunks) tables
-  grown_saved = all_saved_kept chunks chunks' tables (λ n i there here. same_frame (get_or (get_or tables n []) i 0)
-      (saved_entry_counted chunks tally current tables n i p there here))
+  pub grown_saved : map (saved_of frames') tables ≡ map (saved_of frames) tables
+  grown_saved = all_saved_kept frames frames' tables (λ n i there here. same_frame (get_or (get_or tables n []) i 0)
+      (saved_entry_counted frames tally current tables n i p there here))
 
   -- Chunks and free frames are added.
   pub grown_pool : (tally' : Tally) (more : ℕ) → tally'.counts ≡ tally.counts ++ replicate more 0
       → tally'.spare ≡ tally.spare + more
-      → length tally.counts + more ≤ CHUNK_FRAMES * length chunks' → IsPool chunks' tally' current tables
+      → length tally.counts + more ≤ length frames' → IsPool frames' tally' current tables
   grown_pool tally' more counts spare covered =
       let size : length tally'.counts ≡ length tally.counts + more =
       rw counts (length-append tally.counts (replicate more 0) ∙ ap (λ (n : ℕ). length tally.counts + n)
@@ -116,7 +115,7 @@ module _ (chunks chunks' : List (List (List ℕ))) (tally : Tally) (current : Li
   -- Only what is spare is seen to change.
   pub grown_same : (tally' : Tally) (more : ℕ) → length tally'.counts ≡ length tally.counts + more
       → tally'.spare ≡ tally.spare + more
-      → memories_of chunks' tally' current tables ≡ record (memories_of chunks tally current tables) {
+      → memories_of frames' tally' current tables ≡ record (memories_of frames tally current tables) {
         spare =
             tally'.spare;
       }
@@ -125,8 +124,8 @@ module _ (chunks chunks' : List (List (List ℕ))) (tally : Tally) (current : Li
       omega (arith, p.some) in
       let put : List (List ℕ) → List (Option Memory) → ℕ → Memories = λ pages saved n.
       record { current = record { pages = pages; stamps = current }; saved = saved; used = n; spare = tally'.spare } in
-      ap (λ (pages : List (List ℕ)). put pages (map (saved_of chunks') tables)
+      ap (λ (pages : List (List ℕ)). put pages (map (saved_of frames') tables)
       (length tally'.counts - tally'.spare - 1)) grown_pages
-      ∙ ap (λ (saved : List (Option Memory)). put (map (frame_of chunks) current) saved
+      ∙ ap (λ (saved : List (Option Memory)). put (map (frame_of frames) current) saved
       (length tally'.counts - tally'.spare - 1)) grown_saved
-      ∙ ap (put (map (frame_of chunks) current) (map (saved_of chunks) tables)) used
+      ∙ ap (put (map (frame_of frames) current) (map (saved_of frames) tables)) used

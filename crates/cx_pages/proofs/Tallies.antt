@@ -11,11 +11,11 @@ use Rattle.std.proofs.lemmas.List.Sums.{sum_by-set, sum_by-append}
 use Rattle.std.proofs.lemmas.List.Folds.{sum_by-replicate}
 use Rattle.cx_pages.specs.Counts.{IsTally, count_of, taken, taken_count}
 
-taken-zero : taken 0 ≡ 0
+pub taken-zero : taken 0 ≡ 0
 unfolding taken
 taken-zero = refl
 
-taken-some : (count : ℕ) → 1 ≤ count → taken count ≡ 1
+pub taken-some : (count : ℕ) → 1 ≤ count → taken count ≡ 1
 unfolding taken
 taken-some zero some = absurd (omega arith)
 taken-some (suc count) some = let other : suc count ≢ 0 = λ e. omega arith in rw (ne_eqb (suc count) 0 other) refl

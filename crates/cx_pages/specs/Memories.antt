@@ -1,6 +1,7 @@
 -- What contracts see of a pool: a current memory, memories that were saved, and two counts of frames.
 use Rattle.std.specs.Prelude.{◌≡◌, ◌≢◌, ◌⊎◌, ◌↔◌, ℕ, ◌+◌, ◌≤◌, List, [], length, get_or, replicate, slice_index}
-use Rattle.std.specs.Prelude.{slice_set, Option, Some, None, IsSome, All}
+use Rattle.std.specs.Prelude.{◌∷◌, ◌++◌, slice_set, Option, Some, None, IsSome, All, cond, eqb}
+use Rattle.std.specs.List.{flat_map, list_any}
 use Rattle.cx_pages.specs.Frames.{zero_page, IsWhole}
 
 -- The pages of a memory, each a list of 4,096 bytes, and a stamp for each. The stamp of a page is 0 as long as nothing
@@ -71,11 +72,29 @@ abbrev pub SharedBeside : ℕ → Memories → Memories → Type 0
 SharedBeside page old new = (other : ℕ) → other ≢ page → IsShared new other ↔ IsShared old other
 
 -- The memories that are saved are the same, but under this number.
-abbrev pub SameOthers : ℕ → Memories → Memories → Type 0
-SameOthers number old new = (other : ℕ) → other ≢ number → saved_at new other ≡ saved_at old other
+abbrev pub SameOthers : {M : Type 0} → ℕ → List (Option M) → List (Option M) → Type 0
+SameOthers number old new = (other : ℕ) → other ≢ number → get_or new other None ≡ get_or old other None
 
--- No frame was taken, and those that no memory has any more are spare.
-pub record GivesBack (old new : Memories) : Type 0 where
-  pub used : new.used ≤ old.used
-  pub spare : old.spare ≤ new.spare
-  pub sum : new.used + new.spare ≡ old.used + old.spare
+-- 1 for a number other than 0 that isn't in the list
+unfoldable pub is_new : ℕ → List ℕ → ℕ
+is_new x xs = cond (eqb x 0) 0 (cond (list_any (λ y. eqb y x) xs) 0 1)
+
+-- how many numbers other than 0 a list has, each counted once
+unfoldable pub distinct_count : List ℕ → ℕ
+distinct_count [] = 0
+distinct_count (x ∷ xs) = is_new x xs + distinct_count xs
+
+-- the stamps of a saved memory, if there is one
+abbrev pub stamps_in : Option Memory → List ℕ
+stamps_in None = []
+stamps_in (Some memory) = memory.stamps
+
+-- how many frames the memories have: one for each stamp other than 0
+abbrev pub stamp_count : Memories → ℕ
+stamp_count m = distinct_count (m.current.stamps ++ flat_map stamps_in m.saved)
+
+-- No frame was taken, and those that no memory has any more are spare: so many are used and spare, then so many.
+pub record GivesBack (used spare used' spare' : ℕ) : Type 0 where
+  pub fewer : used' ≤ used
+  pub more : spare ≤ spare'
+  pub sum : used' + spare' ≡ used + spare

@@ -1,9 +1,8 @@
 -- Tables of frame numbers, one for each memory, with the number of a frame for each page.
-use Rattle.std.specs.Prelude.{◌≡◌, ◌≢◌, ◌⊎◌, ℕ, ◌+◌, ◌*◌, ◌-◌, ◌<◌, ◌≤◌, List, [], ◌∷◌, length, map, get_or, cond, eqb}
+use Rattle.std.specs.Prelude.{◌≡◌, ◌≢◌, ◌⊎◌, ℕ, ◌+◌, ◌-◌, ◌<◌, ◌≤◌, List, [], ◌∷◌, length, map, get_or, cond, eqb}
 use Rattle.std.specs.Prelude.{Option, Some, None, All}
 use Rattle.std.specs.List.{sum_by}
 use Rattle.cx_map.specs.Map.{IsPageCount}
-use Rattle.cx_pages.specs.declared.chunk.TheConstants.{CHUNK_FRAMES}
 use Rattle.cx_pages.specs.declared.pool.TheConstants.{MOST_SAVED}
 use Rattle.cx_pages.specs.Frames.{frame_of, zero_page}
 use Rattle.cx_pages.specs.Counts.{Tally, count_of}
@@ -26,19 +25,19 @@ unfoldable pub extra_names : ℕ → ℕ
 extra_names f = cond (eqb f 0) 2 0
 
 -- the memory that a table stands for
-abbrev pub memory_of : List (List (List ℕ)) → List ℕ → Memory
-memory_of chunks table = record { pages = map (frame_of chunks) table; stamps = table }
+abbrev pub memory_of : List (List ℕ) → List ℕ → Memory
+memory_of frames table = record { pages = map (frame_of frames) table; stamps = table }
 
 -- the memory that a saved table stands for; an empty table stands for none
-abbrev pub saved_of : List (List (List ℕ)) → List ℕ → Option Memory
-saved_of chunks [] = None
-saved_of chunks (f ∷ table) = Some (memory_of chunks (f ∷ table))
+abbrev pub saved_of : List (List ℕ) → List ℕ → Option Memory
+saved_of frames [] = None
+saved_of frames (f ∷ table) = Some (memory_of frames (f ∷ table))
 
 -- what contracts see of the frames, the counts and the tables
-abbrev pub memories_of : List (List (List ℕ)) → Tally → List ℕ → List (List ℕ) → Memories
-memories_of chunks tally current tables = record {
-  current = memory_of chunks current;
-  saved = map (saved_of chunks) tables;
+abbrev pub memories_of : List (List ℕ) → Tally → List ℕ → List (List ℕ) → Memories
+memories_of frames tally current tables = record {
+  current = memory_of frames current;
+  saved = map (saved_of frames) tables;
   used = length tally.counts - tally.spare - 1;
   spare = tally.spare;
 }
@@ -58,12 +57,12 @@ abbrev pub IsTable : ℕ → List ℕ → Type 0
 IsTable pages table = (table ≡ []) ⊎ (length table ≡ pages)
 
 -- What is true of the frames, the counts and the tables of a pool.
-pub record IsPool (chunks : List (List (List ℕ))) (tally : Tally) (current : List ℕ) (tables : List (List ℕ)) : Type 0
+pub record IsPool (frames : List (List ℕ)) (tally : Tally) (current : List ℕ) (tables : List (List ℕ)) : Type 0
   where
-    pub zeros : frame_of chunks 0 ≡ zero_page
+    pub zeros : frame_of frames 0 ≡ zero_page
     pub counted : (f : ℕ) → count_of tally.counts f ≡ extra_names f + names f current + all_names f tables
     pub some : tally.spare < length tally.counts
-    pub covered : length tally.counts ≤ CHUNK_FRAMES * length chunks
+    pub covered : length tally.counts ≤ length frames
     pub size : IsPageCount (length current)
     pub sizes : All (IsTable (length current)) tables
     pub few : length tables ≤ MOST_SAVED

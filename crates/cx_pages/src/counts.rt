@@ -2,7 +2,7 @@
 
 ghost use Rattle.std.specs.Prelude.{◌≡◌, ◌≢◌, ℕ, ◌+◌, ◌-◌, ◌^◌, ◌<◌, ◌≤◌, List, [], ◌∷◌, length, IfErr, IfOk};
 ghost use Rattle.std.specs.Prelude.{slice_index, slice_set, replicate, ◌++◌};
-ghost use Rattle.cx_pages.specs.Counts.{count_of};
+ghost use Rattle.cx_pages.specs.Counts.{count_of, taken_count};
 ghost use Rattle.cx_pages.specs.Tables.{names};
 
 use crate::pool::NoMemory;
@@ -54,6 +54,7 @@ impl Counts {
     }
 
     /// How many frames have a count of 0.
+    #[inline(always)]
     pub(crate) fn spare(&self) -> usize
         ensures count { result ≡ self.now.spare }
         ensures most { result < 2 ^ 32 }
@@ -136,10 +137,11 @@ impl Counts {
         self.tell_used();
     }
 
-    /// Tells that a frame that has a name isn't spare.
+    /// Tells that a frame that has a name isn't spare, and each of the others is.
     #[inline(always)]
     pub(crate) fn tell_used(&self)
-        ensures { (f : ℕ) → 1 ≤ count_of self.now.counts f → self.now.spare < length self.now.counts }
+        ensures named { (f : ℕ) → 1 ≤ count_of self.now.counts f → self.now.spare < length self.now.counts }
+        ensures others { taken_count self.now.counts + self.now.spare ≡ length self.now.counts }
     {
         let _ = &self.spare;
     }

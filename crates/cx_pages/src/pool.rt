@@ -5,9 +5,8 @@ ghost use Rattle.std.specs.Prelude.{Some, None, IfErr, IfOk, IfSome, IsTrue};
 ghost use Rattle.std.specs.List.{splice};
 ghost use Rattle.cx_map.specs.Map.{IsPageCount};
 ghost use Rattle.cx_pages.specs.Memories.{AreSavedWhole, AreWhole, GivesBack, HasOwn, IsLive, IsShared, SameOthers};
-ghost use Rattle.cx_pages.specs.Memories.{SharedBeside, page_count, page_of, saved_at, zeros};
+ghost use Rattle.cx_pages.specs.Memories.{SharedBeside, page_count, page_of, saved_at, stamp_count, zeros};
 
-use crate::chunk::CHUNK_FRAMES;
 use crate::counts::Counts;
 use crate::frames::Frames;
 use crate::table::Table;
@@ -89,21 +88,34 @@ impl Pool {
 
     /// Makes sure that `n` frames are spare, and changes nothing else. `NoMemory` also comes where there would be 2^32
     /// frames.
+    #[inline(always)]
     pub fn reserve(&mut self, n: u32) -> Result<(), NoMemory>
         ensures room { IfOk result (λ done. n ≤ self.new.spare) }
         ensures kept { self.old.spare ≤ self.new.spare }
         ensures same { self.new ≡ record self.old { spare = self.new.spare } }
         ensures refused { IfErr result (λ refused. self.new ≡ self.old) }
     {
-        let more = (n as usize).saturating_sub(self.counts.spare());
-        let count = self.counts.len() + more;
-        if more == 0 {
+        if n as usize <= self.counts.spare() {
             return Ok(());
         }
+        self.grow(n)
+    }
+
+    /// Makes sure that `n` frames are spare, where fewer are.
+    #[cold]
+    fn grow(&mut self, n: u32) -> Result<(), NoMemory>
+        requires { self.old.spare < n }
+        ensures room { IfOk result (λ done. n ≤ self.new.spare) }
+        ensures kept { self.old.spare ≤ self.new.spare }
+        ensures same { self.new ≡ record self.old { spare = self.new.spare } }
+        ensures refused { IfErr result (λ refused. self.new ≡ self.old) }
+    {
+        let more = n as usize - self.counts.spare();
+        let count = self.counts.len() + more;
         if MOST_FRAMES < count {
             return Err(NoMemory);
         }
-        self.frames.grow(count.div_ceil(CHUNK_FRAMES))?;
+        self.frames.grow(count)?;
         self.counts.grow(more)?;
         Ok(())
     }
@@ -112,6 +124,7 @@ impl Pool {
     #[inline(always)]
     pub fn pages(&self) -> u32
         ensures pages { result ≡ page_count self.now.current }
+        ensures stamps { length self.now.current.stamps ≡ result }
         ensures count { IsPageCount result }
         ensures whole { AreWhole self.now.current }
         ensures saved { AreSavedWhole self.now }
@@ -222,7 +235,7 @@ impl Pool {
     pub fn save(&mut self) -> Result<Snap, NoMemory>
         ensures number { IfOk result (λ snap. saved_at self.old snap ≡ None) }
         ensures saved { IfOk result (λ snap. saved_at self.new snap ≡ Some self.old.current) }
-        ensures others { IfOk result (λ snap. SameOthers snap self.old self.new) }
+        ensures others { IfOk result (λ snap. SameOthers snap self.old.saved self.new.saved) }
         ensures shared { IfOk result (λ snap. (page : ℕ) → IsShared self.new page) }
         ensures same { self.new ≡ record self.old { saved = self.new.saved } }
         ensures refused { IfErr result (λ refused. self.new ≡ self.old) }
@@ -293,7 +306,7 @@ impl Pool {
         ensures current { saved_at self.old snap.now ≡ Some self.new.current }
         ensures saved { self.new.saved ≡ self.old.saved }
         ensures shared { (page : ℕ) → IsShared self.new page }
-        ensures counts { GivesBack self.old self.new }
+        ensures counts { GivesBack self.old.used self.old.spare self.new.used self.new.spare }
     {
         let table = &self.tables[snap.number];
         self.counts.add_all(table.frames());
@@ -306,19 +319,21 @@ impl Pool {
         requires { IsLive self.old snap }
         ensures current { self.new.current ≡ self.old.current }
         ensures gone { saved_at self.new snap ≡ None }
-        ensures others { SameOthers snap self.old self.new }
+        ensures others { SameOthers snap self.old.saved self.new.saved }
         ensures own { (page : ℕ) → ¬ IsShared self.old page → ¬ IsShared self.new page }
-        ensures counts { GivesBack self.old self.new }
+        ensures counts { GivesBack self.old.used self.old.spare self.new.used self.new.spare }
     {
         let table = &mut self.tables[snap.number];
         self.counts.release_all(table.frames());
         *table = Table::empty(self.alloc);
     }
 
-    /// How many frames memories have, beside that of zeros.
+    /// How many frames memories have, beside that of zeros: one for each stamp other than 0.
     pub fn used(&self) -> u32
-        ensures { result ≡ self.now.used }
+        ensures count { result ≡ self.now.used }
+        ensures stamps { self.now.used ≡ stamp_count self.now }
     {
+        self.counts.tell_used();
         (self.counts.len() - self.counts.spare() - 1) as u32
     }
 

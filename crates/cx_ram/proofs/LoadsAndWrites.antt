@@ -1,24 +1,32 @@
 -- The laws of loads and of writes on a flat list of bytes.
 use Rattle.std.proofs.Common.{◌≡◌, ◌⊎◌, ℕ, zero, suc, ◌+◌, ◌*◌, ◌/◌, ◌%◌, ◌^◌, ◌<◌, ◌≤◌, List, length, refl, sym, inl}
-use Rattle.std.proofs.Common.{inr, arith, add-zero}
+use Rattle.std.proofs.Common.{inr, arith, add-zero, ◌++◌, ◌∙◌, take, drop, ap, length-append}
 use Rattle.std.specs.Prelude.{slice_index}
 use Rattle.std.proofs.lemmas.Grind.{common_steps}
+use Rattle.std.proofs.lemmas.List.{append_assoc, take_at, drop_at, drop-drop, length-take-le}
 use Rattle.std.proofs.Math.Nat.{mod-one}
 use Rattle.std.proofs.lemmas.Nat.{mod-pow-add, pow-add}
 use Rattle.cx_ram.specs.LittleEndian.{loaded, low_bytes, written, stored}
 use Rattle.cx_ram.proofs.Writes.{length-low_bytes}
 
+-- A load of the same bytes, wherever they stand.
+pub loaded-moved : (m n : List ℕ) (i j len : ℕ)
+    → ((k : ℕ) → k < len → slice_index m (i + k) ≡ slice_index n (j + k))
+    → loaded m i len ≡ loaded n j len
+unfolding loaded
+loaded-moved m n i j zero agree = refl
+loaded-moved m n i j (suc len) agree =
+    let first : slice_index m i ≡ slice_index n j = rw (add-zero i, add-zero j) at (agree 0 (omega arith)) in
+    let rest : loaded m (i + 1) len ≡ loaded n (j + 1) len =
+    loaded-moved m n (i + 1) (j + 1) len (λ k below. let e : (i + 1) + k ≡ i + suc k = omega arith in
+    let f : (j + 1) + k ≡ j + suc k = omega arith in
+    rw (e, f) (agree (suc k) (omega arith))) in
+    omega arith
+
 -- A load depends on its own bytes alone.
 pub loaded-agree : (m n : List ℕ) (i len : ℕ) → ((k : ℕ) → k < len → slice_index m (i + k) ≡ slice_index n (i + k))
     → loaded m i len ≡ loaded n i len
-unfolding loaded
-loaded-agree m n i zero agree = refl
-loaded-agree m n i (suc len) agree =
-    let first : slice_index m i ≡ slice_index n i = rw add-zero at (agree 0 (omega arith)) in
-    let rest : loaded m (i + 1) len ≡ loaded n (i + 1) len =
-    loaded-agree m n (i + 1) len (λ k below. let e : (i + 1) + k ≡ i + suc k = omega arith in
-    rw e (agree (suc k) (omega arith))) in
-    omega arith
+loaded-agree m n i len agree = loaded-moved m n i i len agree
 
 pub length-written : (m : List ℕ) (i : ℕ) (bytes : List ℕ) → i + length bytes ≤ length m
     → length (written m i bytes) ≡ length m
@@ -107,3 +115,24 @@ loaded-fits m i (suc len) fits =
     rw e (fits (suc k) (omega arith))) in
     let width : 8 * suc len ≡ 8 * len + 8 = omega arith in
     rw (width, pow-add 2 (8 * len) 8) (omega arith)
+
+-- Two writes, the second behind the first.
+pub written-parts : (m : List ℕ) (i : ℕ) (one two : List ℕ) → i + length one ≤ length m
+    → written (written m i one) (i + length one) two ≡ written m i (one ++ two)
+unfolding written
+written-parts m i one two within =
+    let n : ℕ = i + length one in
+    let front : List ℕ = take i m ++ one in
+    let rest : List ℕ = drop n m in
+    let size : length front ≡ n = length-append (take i m) one ∙ ap (λ (k : ℕ). k + length one) (length-take-le i m
+    (omega arith)) in
+    let joined : take i m ++ (one ++ rest) ≡ front ++ rest = sym (append_assoc (take i m) one rest) in
+    let before : take n (take i m ++ (one ++ rest)) ≡ front = ap (take n) joined ∙ take_at front rest n size in
+    let past : drop n (take i m ++ (one ++ rest)) ≡ rest = ap (drop n) joined ∙ drop_at front rest n size in
+    let behind : drop (n + length two) (take i m ++ (one ++ rest)) ≡ drop (i + length (one ++ two)) m =
+    sym (drop-drop (length two) n (take i m ++ (one ++ rest))) ∙ ap (drop (length two)) past
+    ∙ drop-drop (length two) n m
+    ∙ ap (λ (k : ℕ). drop k m) (omega (arith, length-append one two)) in
+    rw (before, behind)
+    (append_assoc (take i m) one (two ++ drop (i + length (one ++ two)) m)
+    ∙ ap (λ (l : List ℕ). take i m ++ l) (sym (append_assoc one two (drop (i + length (one ++ two)) m))))

@@ -1,7 +1,6 @@
 -- What the code's ways to write make of a list.
-use Rattle.std.proofs.Common.{◌≡◌, ℕ, zero, suc, ◌+◌, ◌-◌, ◌/◌, List, ◌++◌, length, take, drop, refl, ap, arith}
+use Rattle.std.proofs.Common.{◌≡◌, ℕ, zero, suc, ◌/◌, List, length, take, refl, ap}
 use Rattle.std.specs.Int.{w32, to_le_bytes}
-use Rattle.std.proofs.lemmas.List.{drop-drop}
 use Rattle.std.proofs.Math.Nat.{div-div-eq-div-mul}
 use Rattle.cx_ram.specs.LittleEndian.{written, low_bytes, stored}
 
@@ -9,14 +8,6 @@ pub length-low_bytes : (len value : ℕ) → length (low_bytes len value) ≡ le
 unfolding low_bytes
 length-low_bytes zero value = refl
 length-low_bytes (suc len) value = ap suc (length-low_bytes len (value / 256))
-
--- The bytes of a list from one index to another, replaced.
-pub written_between : (memory bytes : List ℕ) (at to : ℕ) → to ≡ at + length bytes
-    → take at memory ++ (bytes ++ drop (to - at) (drop at memory)) ≡ written memory at bytes
-unfolding written
-written_between memory bytes at to e =
-    let len : to - at ≡ length bytes = omega arith in
-    rw (len, drop-drop (length bytes) at memory) refl
 
 low_bytes-four : (value : ℕ) → low_bytes 4 value ≡ to_le_bytes w32 value
 unfolding low_bytes

@@ -1,3 +1,4 @@
 pub mod LittleEndian
 pub mod PhysicalMemory
+pub mod Flat
 pub mod Agreement

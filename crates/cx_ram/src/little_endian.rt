@@ -2,7 +2,7 @@
 
 ghost use Rattle.std.specs.Prelude.{◌≡◌, ◌+◌, ◌*◌, ◌^◌, ◌<◌, ◌≤◌, length};
 ghost use Rattle.cx_map.specs.Bytes.{AreBytes};
-ghost use Rattle.cx_ram.specs.LittleEndian.{loaded, stored, written};
+ghost use Rattle.cx_ram.specs.LittleEndian.{loaded};
 ghost use Rattle.cx_ram.specs.PhysicalMemory.{IsAccessLength, is_zero};
 
 /// Tells that what a slice of bytes holds is below 256.
@@ -27,31 +27,6 @@ pub fn load(memory: &[u8], at: usize, len: u8) -> u32
         2 => u32::from(u16::from_le_bytes([memory[at], memory[at + 1]])),
         3 => u32::from_le_bytes([memory[at], memory[at + 1], memory[at + 2], 0]),
         _ => u32::from_le_bytes([memory[at], memory[at + 1], memory[at + 2], memory[at + 3]]),
-    }
-}
-
-/// Puts bytes in the place of those from index `at` on.
-#[inline(always)]
-pub fn write(memory: &mut [u8], at: usize, bytes: &[u8])
-    requires { at + length bytes.now ≤ length memory.old }
-    ensures { memory.new ≡ written memory.old at bytes.now }
-{
-    memory[at..at + bytes.len()].copy_from_slice(bytes);
-}
-
-/// Puts the 1 to 4 low bytes of a value in the place of those from index `at` on.
-#[inline(always)]
-pub fn store(memory: &mut [u8], at: usize, len: u8, value: u32)
-    requires within { at + len ≤ length memory.old }
-    requires length { IsAccessLength len }
-    ensures { memory.new ≡ stored memory.old at len value }
-{
-    let bytes = value.to_le_bytes();
-    match len {
-        1 => write(memory, at, &bytes[..1]),
-        2 => write(memory, at, &bytes[..2]),
-        3 => write(memory, at, &bytes[..3]),
-        _ => write(memory, at, &bytes),
     }
 }
 

@@ -70,3 +70,58 @@ fn pages_come_and_go(rt: HostRuntime) {
     assert!(rt; ram.is_zero(1));
     assert_eq!(rt; ram.load(0x8000_0fff, 1), 1);
 }
+
+#[test]
+fn a_saved_memory_stays_and_comes_back(rt: HostRuntime) {
+    let mut ram = two_pages(&rt, rt.alloc());
+    assert_eq!(rt; ram.used(), 0);
+    ram.store(0x8000_0010, 4, 0x1122_3344);
+    assert_eq!(rt; ram.used(), 1);
+    let Ok(snap) = ram.save() else {
+        panic!(rt; "no memory");
+    };
+    assert_eq!(rt; ram.used(), 1);
+    // Both pages.
+    ram.dma(0x8000_0fff, &[5, 6]);
+    assert_eq!(rt; ram.used(), 3);
+    assert_eq!(rt; ram.load(0x8000_0010, 4), 0x1122_3344);
+    assert_eq!(rt; ram.load(0x8000_1000, 1), 6);
+    assert_eq!(rt; ram.saved_page_bytes(&snap, 0)[16], 0x44);
+    assert_eq!(rt; ram.saved_page_bytes(&snap, 0)[4095], 0);
+    let mut second = [1; 4096];
+    ram.saved_page(&snap, 1, &mut second);
+    assert_eq!(rt; second[0], 0);
+    ram.restore(&snap);
+    assert_eq!(rt; ram.used(), 1);
+    assert_eq!(rt; ram.load(0x8000_0010, 4), 0x1122_3344);
+    assert_eq!(rt; ram.load(0x8000_0fff, 1), 0);
+    assert!(rt; ram.is_zero(1));
+    ram.store(0x8000_0010, 1, 0x55);
+    assert_eq!(rt; ram.used(), 2);
+    assert!(rt; ram.is_live(&snap));
+    ram.forget(snap);
+    assert_eq!(rt; ram.used(), 1);
+    assert_eq!(rt; ram.load(0x8000_0010, 4), 0x1122_3355);
+}
+
+#[test]
+fn a_number_is_given_again(rt: HostRuntime) {
+    let mut ram = two_pages(&rt, rt.alloc());
+    let Ok(first) = ram.save() else {
+        panic!(rt; "no memory");
+    };
+    ram.set_page(1, &[7; 4096]);
+    let Ok(second) = ram.save() else {
+        panic!(rt; "no memory");
+    };
+    assert_eq!(rt; ram.used(), 1);
+    assert!(rt; ram.is_live(&first));
+    ram.restore(&first);
+    assert_eq!(rt; ram.load(0x8000_1000, 1), 0);
+    assert_eq!(rt; ram.used(), 1);
+    ram.forget(first);
+    ram.restore(&second);
+    assert_eq!(rt; ram.load(0x8000_1000, 2), 0x0707);
+    ram.forget(second);
+    assert_eq!(rt; ram.used(), 1);
+}

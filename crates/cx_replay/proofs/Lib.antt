@@ -9,3 +9,5 @@ pub mod Steps
 pub mod Answering
 pub mod Marks
 pub mod PassedMark
+pub mod EventsKept
+pub mod Rereads

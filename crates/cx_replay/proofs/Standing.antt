@@ -88,7 +88,7 @@ all_carried o whole given m split run all =
     let there = rw (split, n) at run in
     (built_steps-whole (hart_step o.header.split) (decoded o whole) (whole.upto - o.header.base)).1 (rw there refl)
 
-bad_where : (o : Opened) (whole : Scan) → carried hart_step (decoded o whole) ≡ whole.upto - o.header.base
+pub bad_where : (o : Opened) (whole : Scan) → carried hart_step (decoded o whole) ≡ whole.upto - o.header.base
     → bad_behind hart_step o whole ≡ option_map Format (bad_field whole.stop)
 bad_where o whole all = rw (eq-eqb (carried hart_step (decoded o whole)) (whole.upto - o.header.base) all) refl
 
@@ -194,3 +194,17 @@ pub carried_broken : (o : Opened) (whole : Scan) (given : List StepRec)
     → carried hart_step (decoded o whole) ≡ length given
 carried_broken o whole given bad = broken_where (decoded o whole) (carried hart_step (decoded o whole)) (length given)
     (bad_field whole.stop) _ refl bad
+
+-- another machine that goes on alike
+pub stands_alike : {o : Opened} {whole : Scan} {given : List StepRec} {p : Progress} {bytes : List ℕ}
+    {Has : Scan → Type 0} (m m' : Whole) → machine_of m' ≡ machine_of m → m'.split ≡ m.split
+    → Stands o whole given m p bytes Has → Stands o whole given m' p bytes Has
+stands_alike {o} {whole} {given} m m' same split stands = record {
+  read = stands.read;
+  within = stands.within;
+  count = stands.count;
+  fresh = stands.fresh;
+  one = stands.one;
+  split = split ∙ stands.split;
+  run = rw (split, same) stands.run;
+}

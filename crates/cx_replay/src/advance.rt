@@ -47,6 +47,7 @@ pub(crate) fn advance<R: Records, S: Source>(
     ensures formed { IfOk result (λ gave. OnTrue gave (rec.new.walked ≤ 6)) }
     ensures size { length machine.new.memory ≡ length machine.old.memory }
     ensures split { machine.new.split ≡ machine.old.split }
+    ensures saved { machine.new.saved ≡ machine.old.saved }
     ensures pages { (R.seen records.new).pages ≡ (R.seen records.old).pages }
     ensures cause { HasCause ReplayFault.ReadFault (S.faults source.old) (S.faults source.new) result }
 {

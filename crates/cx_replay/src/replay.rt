@@ -2,18 +2,23 @@
 
 ghost use Rattle.std.specs.Bool.{OnFalse, OnTrue};
 ghost use Rattle.std.specs.Prelude.{◌≡◌, ◌≢◌, ◌≤◌, ◌+◌, ℕ, List, [], ◌∷◌, ◌++◌, length, false, true, is_ok, IfOk};
-ghost use Rattle.std.specs.Prelude.{IfNone, IsSome, IsTrue, None};
+ghost use Rattle.std.specs.Prelude.{IfErr, IfNone, IsSome, IsTrue, None, Some};
 ghost use Rattle.cx_codec.specs.Place.{end_of};
 ghost use Rattle.cx_codec.specs.Reads.{Begins};
+ghost use Rattle.cx_csr.specs.Keeps.{Keeps};
+ghost use Rattle.cx_hart.specs.Whole.{IsLive, machine_at, machine_of};
 ghost use Rattle.cx_hart.specs.declared.record.StepRec.{StepRec};
 ghost use Rattle.cx_io.specs.Cause.{HasCause};
 ghost use Rattle.cx_log.specs.Reading.{Opened};
 ghost use Rattle.cx_log.specs.Order.{InOrder, IsHeader, at_start};
 ghost use Rattle.cx_log.specs.Scan.{Scan, scan};
 ghost use Rattle.cx_machine.specs.Due.{nothing_due};
+ghost use Rattle.cx_machine.specs.Machine.{pages_of};
+ghost use Rattle.cx_pages.specs.Memories.{SameOthers};
 ghost use Rattle.cx_map.specs.Bytes.{AreBytes};
 ghost use Rattle.cx_run.specs.StepEvents.{has_mark};
 ghost use Rattle.cx_map.specs.Map.{size_of_pages};
+ghost use Rattle.cx_replay.specs.KeptRecords.{HasKept, kept_from, scan_of};
 ghost use Rattle.cx_replay.specs.LogRecords.{HasAhead, IsBegun, place_of};
 ghost use Rattle.cx_replay.specs.Records.{GaveMore, MayBeWhole, RisesFrom};
 ghost use Rattle.cx_replay.specs.Replaying.{Answers, Stands, Starts, StepsOn, begun_at_base, mark_before, told_in};
@@ -21,11 +26,13 @@ ghost use Rattle.cx_replay.specs.Replaying.{Answers, Stands, Starts, StepsOn, be
 use crate::advance::advance;
 use crate::due::DueRecords;
 use crate::fault::ReplayFault;
+use crate::kept::KeptEvents;
+use crate::kept_records::KeptReader;
 use crate::progress::Progress;
 use crate::records::Records;
-use cx_hart::{Machine, StepRec};
-use cx_io::Source;
-use cx_log::{Header, LogReader};
+use cx_hart::{Machine, Moment, StepRec};
+use cx_io::{NoMemory, Source};
+use cx_log::{Behind, Header, LogReader};
 use std::alloc::Global;
 use std::marker::Model;
 
@@ -153,9 +160,53 @@ impl<R: Records> Replay<R> {
         self.progress.passed_mark()
     }
 
-    /// Hands the machine out.
+    /// Keeps the machine as it is before the next step. `NoMemory` is free; the replay goes on then too.
+    pub fn save(&mut self) -> Result<Moment, NoMemory>
+        ensures moment { IfOk result (λ moment. machine_at self.new.machine.saved moment
+            ≡ Some (machine_of self.old.machine)) }
+        ensures number { IfOk result (λ moment. ¬ IsLive self.old.machine.saved moment) }
+        ensures others { IfOk result
+            (λ moment. SameOthers moment.snap self.old.machine.saved self.new.machine.saved) }
+        ensures keeps { IfOk result (λ moment. Keeps (pages_of self.new.machine.memory) moment.state) }
+        ensures size { length self.new.machine.memory ≡ size_of_pages (R.seen self.new.records).pages }
+        ensures stands { (gave input : List ℕ) (end : ℕ) (o : Opened) (whole : Scan) (given : List StepRec)
+            → Stands o whole given self.old.machine self.old.progress (R.seen self.old.records).bytes
+            (R.has self.old.records gave input end)
+            → Stands o whole given self.new.machine self.new.progress (R.seen self.new.records).bytes
+            (R.has self.new.records gave input end) }
+        ensures same { self.new ≡ record self.old {
+          machine = record self.old.machine { saved = self.new.machine.saved };
+        } }
+        ensures refused { IfErr result (λ refused. self.new ≡ self.old) }
+    {
+        match self.machine.save() {
+            Ok(moment) => Ok(moment),
+            Err(_) => Err(NoMemory),
+        }
+    }
+
+    /// Ends a moment of the machine, which stays as it is.
+    pub fn forget(&mut self, moment: Moment)
+        requires { IsLive self.old.machine.saved moment }
+        ensures machine { machine_of self.new.machine ≡ machine_of self.old.machine }
+        ensures gone { ¬ IsLive self.new.machine.saved moment }
+        ensures others { SameOthers moment.snap self.old.machine.saved self.new.machine.saved }
+        ensures split { self.new.machine.split ≡ self.old.machine.split }
+        ensures spare { self.old.machine.spare ≤ self.new.machine.spare }
+        ensures stands { (gave input : List ℕ) (end : ℕ) (o : Opened) (whole : Scan) (given : List StepRec)
+            → Stands o whole given self.old.machine self.old.progress (R.seen self.old.records).bytes
+            (R.has self.old.records gave input end)
+            → Stands o whole given self.new.machine self.new.progress (R.seen self.new.records).bytes
+            (R.has self.new.records gave input end) }
+        ensures same { self.new ≡ record self.old { machine = self.new.machine } }
+    {
+        self.machine.forget(moment);
+    }
+
+    /// Hands the machine out, with its moments.
     pub fn into_machine(self) -> Machine
-        ensures { result ≡ self.machine }
+        ensures machine { result ≡ self.machine }
+        ensures size { length result.memory ≡ size_of_pages (R.seen self.records).pages }
     {
         self.machine
     }
@@ -186,6 +237,7 @@ impl<R: Records> Replay<R> {
         ensures at { StepsOn self.old.progress.at self.new.progress.at result }
         ensures formed { IfOk result (λ gave. OnTrue gave (rec.new.walked ≤ 6)) }
         ensures split { self.new.machine.split ≡ self.old.machine.split }
+        ensures saved { self.new.machine.saved ≡ self.old.machine.saved }
         ensures pages { (R.seen self.new.records).pages ≡ (R.seen self.old.records).pages }
         ensures cause { HasCause ReplayFault.ReadFault (S.faults source.old) (S.faults source.new) result }
     {
@@ -218,6 +270,7 @@ impl<R: Records> Replay<R> {
             → IfOk result (λ gave. IfNone gave (R.leaves (S.left source.new))) }
         ensures live { self.new.live ≡ is_ok result }
         ensures split { self.new.machine.split ≡ self.old.machine.split }
+        ensures saved { self.new.machine.saved ≡ self.old.machine.saved }
         ensures pages { (R.seen self.new.records).pages ≡ (R.seen self.old.records).pages }
         ensures cause { HasCause ReplayFault.ReadFault (S.faults source.old) (S.faults source.new) result }
     {
@@ -260,5 +313,37 @@ impl Replay<LogReader> {
         ensures rules { IsHeader result.now }
     {
         self.records.header()
+    }
+}
+
+impl Replay<KeptReader> {
+    /// A replay of the recording with this header, the machine's memory, and these events up to its end, which were
+    /// kept. The machine is the one before its first step.
+    pub fn of_kept(
+        alloc: Global,
+        machine: Machine,
+        header: &Header,
+        events: KeptEvents,
+        end: u64,
+    ) -> Replay<KeptReader>
+        requires header { IsHeader header.now }
+        requires order { InOrder header.now.pages (at_start header.now.base header.now.start) events end }
+        requires state { machine.state ≡ header.now.start }
+        requires split { machine.split ≡ header.now.split }
+        requires size { length machine.memory ≡ size_of_pages header.now.pages }
+        ensures is { result ≡ record {
+          machine = machine;
+          records = kept_from header.now.pages header.now.base events end;
+          progress = begun_at_base header.now.base;
+          due = nothing_due;
+          live = true;
+        } }
+        ensures stands { (given input : List ℕ) (offset : ℕ)
+            → Stands (record { header = header.now; memory = machine.memory }) (scan_of events end) []
+            result.machine result.progress result.records.bytes (HasKept result.records given input offset) }
+    {
+        let start = Behind::at_start(header.base, &header.start);
+        let records = KeptReader::new(header.pages, &start, events, end);
+        Replay::start(alloc, machine, records, header.base)
     }
 }

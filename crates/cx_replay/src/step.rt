@@ -20,6 +20,7 @@ fn move_one(machine: &mut Machine, moved: &Moved) -> Result<(), NoMemory>
     ensures machine { OnOk result (machine_of machine.new ≡ after_transfers (moved.now ∷ []) (machine_of machine.old)) }
     ensures size { length machine.new.memory ≡ length machine.old.memory }
     ensures split { machine.new.split ≡ machine.old.split }
+    ensures saved { machine.new.saved ≡ machine.old.saved }
 {
     machine.reserve(2)?;
     machine.dma(moved.place(), moved.bytes());
@@ -32,6 +33,7 @@ fn move_all(machine: &mut Machine, moves: &[Moved]) -> Result<(), NoMemory>
     ensures machine { OnOk result (machine_of machine.new ≡ after_transfers moves.now (machine_of machine.old)) }
     ensures size { length machine.new.memory ≡ length machine.old.memory }
     ensures split { machine.new.split ≡ machine.old.split }
+    ensures saved { machine.new.saved ≡ machine.old.saved }
 {
     for n in 0..moves.len() {
         move_one(machine, &moves[n])?;
@@ -51,6 +53,7 @@ fn turn_counted<L: Ledger>(machine: &mut Machine, due: Due, rec: &mut StepRec, b
         (machine_of machine.new) result }
     ensures size { length machine.new.memory ≡ length machine.old.memory }
     ensures split { machine.new.split ≡ machine.old.split }
+    ensures saved { machine.new.saved ≡ machine.old.saved }
 {
     let mut steps: Steps<L> = Steps::none(blank);
     match machine.step_into(due, &mut steps, rec) {
@@ -71,6 +74,7 @@ pub(crate) fn take_step(
         (machine_of machine.new) result }
     ensures size { length machine.new.memory ≡ length machine.old.memory }
     ensures split { machine.new.split ≡ machine.old.split }
+    ensures saved { machine.new.saved ≡ machine.old.saved }
 {
     move_all(machine, due.moves())?;
     machine.reserve(2)?;

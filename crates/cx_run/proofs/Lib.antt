@@ -16,3 +16,4 @@ pub mod Alone
 pub mod GoodInputs
 pub mod FirstBreak
 pub mod StepEvents
+pub mod Again

@@ -5,6 +5,7 @@ use Rattle.std.specs.List.{list_any}
 use Rattle.cx_map.specs.declared.TheConstants.{PAGE_SIZE}
 use Rattle.cx_ram.specs.PhysicalMemory.{page_of}
 use Rattle.cx_log.specs.Recording.{Event, Mark, Recorded, Recording}
+use Rattle.cx_machine.specs.Machine.{MachineState}
 use Rattle.cx_machine.specs.Step.{Step}
 use Rattle.cx_run.specs.Run.{Run, run_of}
 
@@ -30,6 +31,19 @@ is_mark _ = false
 abbrev pub events_between : ℕ → ℕ → List Recorded → List Recorded
 events_between a b events = filter (λ r. nat_le a r.step && nat_lt r.step b && not (is_mark r.event && r.step == a))
     events
+
+-- The steps from a on and below b as a recording with all of memory, from the machine before the first of them.
+abbrev pub recorded_from : Recording → ℕ → ℕ → MachineState → Recording
+recorded_from R a b machine = record {
+  version = R.version;
+  split = R.split;
+  pages = R.pages;
+  base = a;
+  start = machine.state;
+  memory = machine.memory;
+  events = events_between a b R.events;
+  end = b;
+}
 
 -- The window, from the run up to a and the run up to b.
 abbrev pub window_from : {Rec : Type 0} → (Rec → List ℕ) → Recording → ℕ → ℕ → Run Rec → Run Rec → Recording

@@ -22,7 +22,7 @@ ghost use Rattle.cx_run.specs.FirstBad.{Broken, bad_behind, first_bad, settled};
 ghost use Rattle.std.specs.Prelude.{◌&&◌, ◌==◌, not};
 ghost use Rattle.cx_run.specs.StepEvents.{at_step, has_mark, step_events};
 ghost use Rattle.cx_run.specs.Run.{Run, run_of, built_steps, Accepts};
-ghost use Rattle.cx_run.specs.Window.{any_in_page, is_read, events_between, kept_pages, IsWindow};
+ghost use Rattle.cx_run.specs.Window.{any_in_page, is_read, events_between, kept_pages, recorded_from, IsWindow};
 ghost use Rattle.cx_run.specs.Alone.{RunsAlone};
 
 /// Where the run of so many steps is there, the runs of fewer are, and it begins with their records. It has a record
@@ -87,8 +87,8 @@ pub fn first_break_is_known<Rec>()
         + built_steps (steps o.header.split) (decoded o (record rest { events = front })) m)) }
 {}
 
-/// The events of a step are its mark, if it has one, and what is due to it, in the order in which they stand. The events
-/// of a window grow by those of each of its steps; a mark at the window's first step isn't one of them.
+/// The events of a step are its mark, if it has one, and what is due to it, in the order in which they stand. The
+/// events of a window grow by those of each of its steps; a mark at the window's first step isn't one of them.
 pub fn events_of_a_step_are_due()
     ensures step { (marks : Bool) (pages n : ℕ) (behind : Behind) (events : List Recorded) (end : ℕ)
         → InOrder pages behind events end
@@ -139,6 +139,15 @@ pub fn window_is_there_once<Rec>()
         → (W : Recording) × IsWindow step reads R a b W }
     ensures once { (step : Step Rec) (reads : Rec → List ℕ) (R W V : Recording) (a b : ℕ)
         → IsWindow step reads R a b W → IsWindow step reads R a b V → W ≡ V }
+{}
+
+/// From the machine before a step on, the steps of a recording run again: they are the recording's own, with the same
+/// records.
+pub fn a_window_runs_again<Rec>()
+    ensures { (step : Step Rec) (R : Recording) (a b : ℕ) (before after : Run Rec) → R.base ≤ a → a ≤ b
+        → run_of step R (a - R.base) ≡ Some before → run_of step R (b - R.base) ≡ Some after
+        → run_of step (recorded_from R a b before.machine) (b - a)
+        ≡ Some (record { machine = after.machine; records = drop (a - R.base) after.records }) }
 {}
 
 /// Where steps have the frame property, a window replays alone: its steps are those of the recording

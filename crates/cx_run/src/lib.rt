@@ -8,7 +8,7 @@
 mod laws;
 
 pub use laws::{
-    events_of_a_step_are_due, first_break_is_known, inputs_without_bad_place,
+    a_window_runs_again, events_of_a_step_are_due, first_break_is_known, inputs_without_bad_place,
     kept_pages_are_those_of_the_memory, kept_pages_are_written_one_by_one,
     pages_are_marked_step_by_step, run_stops_at_its_first_gap, runs_begin_with_shorter_runs,
     runs_know_no_later_event, window_is_accepted, window_is_there_once, window_of_window,

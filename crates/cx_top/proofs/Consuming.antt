@@ -1,5 +1,5 @@
 -- What reading does to its source.
-use Rattle.std.proofs.Common.{◌≡◌, ℕ, List, [], Option, IsSome, unwrap_or}
+use Rattle.std.proofs.Common.{◌≡◌, ℕ, false, List, [], Option, IsSome, unwrap_or}
 use Rattle.cx_codec.specs.Reads.{Follows, Standing}
 use Rattle.cx_log.specs.declared.fault.LogFault.{LogFault}
 use Rattle.cx_log.specs.declared.fault.LogFault.TheVariants.{Format as bad_field, ReadFault as read_fault}
@@ -8,7 +8,7 @@ use Rattle.cx_replay.specs.Records.{GaveMore}
 use Rattle.cx_replay.specs.declared.fault.ReplayFault.{ReplayFault}
 use Rattle.cx_replay.specs.declared.fault.ReplayFault.TheVariants as replay
 use Rattle.cx_replay.proofs.Giving.{gave_none, gave_on}
-use Rattle.cx_top.specs.Call.{Consumes, JudgesAll}
+use Rattle.cx_top.specs.Doing.{Consumes, Judges}
 use Rattle.cx_top.specs.Faults.{status_of_log, status_of_replay}
 
 pub consumes_none : {left : Option (List ℕ)} {given : List ℕ} {judged : Type 0} → IsSome left → (judged → ⊥)
@@ -34,12 +34,12 @@ pub gave_of_follows : {old new : Standing} → Follows old new → GaveMore old.
 gave_of_follows follows = record { told = follows.told; same = follows.same; grows = follows.grows }
 
 -- a fault of the reader, or of a replay, comes before the whole is judged
-pub log_fault_is_early : (e : LogFault) → JudgesAll (status_of_log e) → ⊥
+pub log_fault_is_early : (e : LogFault) → Judges false (status_of_log e) → ⊥
 log_fault_is_early (bad_field o) j = j
 log_fault_is_early read_fault j = j
 log_fault_is_early no_memory j = j
 
-pub replay_fault_is_early : (e : ReplayFault) → JudgesAll (status_of_replay e) → ⊥
+pub replay_fault_is_early : (e : ReplayFault) → Judges false (status_of_replay e) → ⊥
 replay_fault_is_early (replay.Format o) j = j
 replay_fault_is_early (replay.Broken n) j = j
 replay_fault_is_early replay.ReadFault j = j

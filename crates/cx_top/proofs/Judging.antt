@@ -5,14 +5,13 @@ use Rattle.cx_codec.specs.Place.{Place, end_of, read_on}
 use Rattle.cx_codec.proofs.Composing.{bound}
 use Rattle.cx_codec.proofs.Texts.{bytes_behind}
 use Rattle.cx_hart.specs.HartStep.{hart_step}
-use Rattle.cx_log.specs.Order.{at_start}
 use Rattle.cx_log.specs.Reading.{Opened, opened_at, start_of}
-use Rattle.cx_log.specs.Scan.{Scan, begin_records, decoded, scan, scan_behind}
+use Rattle.cx_log.specs.Scan.{begin_records, decoded, scan_behind}
 use Rattle.cx_log.proofs.Recordings.{opened_once, opened_text}
 use Rattle.cx_map.specs.Bytes.{AreBytes}
 use Rattle.cx_run.specs.FirstBad.{Format, bad_behind, bad_in, first_bad}
 use Rattle.cx_run.proofs.GoodInputs.{IsGood, good_behind}
-use Rattle.cx_top.specs.Opening.{begun_at, then_records}
+use Rattle.cx_top.specs.Opening.{begun_at, scan_from, then_records}
 use Rattle.cx_top.specs.Window.{IsTextOf}
 use Rattle.cx_window.specs.Cut.{IsJudged}
 
@@ -47,11 +46,17 @@ bad_opening bytes x read = by_read (opened_at (start_of bytes)) read
     by_read (Ok y) e = cc
     by_read (Err z) e = let same : z ≡ x = cc in rw same refl
 
--- ---- the records of an input
+pub good_is_begun : (bytes : List ℕ) → first_bad hart_step bytes ≡ None
+    → (o : Opened) × (p : Place) × (begun_at (start_of bytes) ≡ Ok (o, p))
+unfolding begun_at first_bad
+good_is_begun bytes good = by_opening (opened_at (start_of bytes)) refl good
+  where
+    by_opening : (r : Result (Opened × Place) ℕ) → opened_at (start_of bytes) ≡ r → bad_in hart_step r ≡ None
+        → (o : Opened) × (p : Place) × (read_on (opened_at (start_of bytes)) then_records ≡ Ok (o, p))
+    by_opening (Ok x) opened good = (x.0, begin_records x.1, rw opened refl)
+    by_opening (Err z) opened good = cc
 
--- the records from where they begin
-abbrev pub scan_from : Opened → Place → Scan
-scan_from o p = scan o.header.pages (at_start o.header.base o.header.start) p
+-- ---- the records of an input
 
 pub bad_of_begun : (bytes : List ℕ) (o : Opened) (p : Place) → begun_at (start_of bytes) ≡ Ok (o, p)
     → first_bad hart_step bytes ≡ bad_behind hart_step o (scan_from o p)

@@ -3,6 +3,14 @@ pub mod Filling
 pub mod Refusals
 pub mod Consuming
 pub mod Judging
+pub mod Doings
+pub mod Ordered
+pub mod Streams
+pub mod Streamed
+pub mod LineTold
+pub mod Replayed
+pub mod Fronts
+pub mod Upgrading
 pub mod Answering
-pub mod Tracing
-pub mod Traced
+pub mod Upgraded
+pub mod Completeness

@@ -1,6 +1,10 @@
 pub mod Status
 pub mod Faults
 pub mod Opening
+pub mod Doing
+pub mod Streaming
 pub mod Window
 pub mod Trace
+pub mod Upgrade
+pub mod Growing
 pub mod Call

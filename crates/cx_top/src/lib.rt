@@ -2,12 +2,19 @@
 #![tactic(auto)]
 
 mod call;
+mod front;
+mod laws;
+mod lines;
 mod open;
+mod replay;
 mod status;
+mod stream;
+mod telling;
 #[cfg(test)]
 mod tests;
-mod trace;
+mod upgrade;
 mod window;
 
 pub use call::run;
+pub use laws::{good_inputs_are_done, upgrades_run_alike, windows_are_written};
 pub use status::Status;

@@ -5,11 +5,10 @@ ghost use Rattle.cx_io.specs.Cause.{HasCause};
 ghost use Rattle.cx_codec.specs.Reads.{Opens, Reads, always, over};
 ghost use Rattle.cx_log.specs.Fault.{log_met};
 ghost use Rattle.cx_log.specs.Order.{IsHeader};
-ghost use Rattle.cx_log.specs.Reading.{magic_at};
 ghost use Rattle.cx_machine.specs.Machine.{IsMemory};
 ghost use Rattle.cx_map.specs.Map.{size_of_pages};
 ghost use Rattle.cx_replay.specs.LogRecords.{IsBegun};
-ghost use Rattle.cx_top.specs.Opening.{begun_at, turned_pages_at};
+ghost use Rattle.cx_top.specs.Opening.{begun_at, behind_magic_at, kind_at, turned_pages_at};
 
 use cx_codec::Bytes;
 use cx_hart::Machine;
@@ -27,10 +26,20 @@ pub struct Opening {
     pub machine: Machine,
 }
 
-// The four bytes of the magic.
-fn read_magic<S: Source>(bytes: &mut Bytes, source: &mut S) -> Result<(), LogFault>
+/// What an input is, by the magic that it begins with.
+#[derive(Clone, Copy, Debug, PartialEq, Eq)]
+pub enum Magic {
+    /// A recording.
+    Recording,
+    /// A slice of a process, or one by its calls. Neither is read yet.
+    Slice,
+}
+
+/// Reads the magic, four bytes as one field. `Format` comes exactly where they aren't there, or are those of none of
+/// the three. `ReadFault` comes only where the source's count of faults rose.
+pub(crate) fn read_magic<S: Source>(bytes: &mut Bytes, source: &mut S) -> Result<Magic, LogFault>
     requires { IsTrue bytes.old.live }
-    ensures reads { IsSome (S.left source.old) → Reads log_met (always tt) magic_at
+    ensures reads { IsSome (S.left source.old) → Reads log_met (λ m. m) kind_at
         (over bytes.old (S.left source.old) (S.given source.old))
         (over bytes.new (S.left source.new) (S.given source.new)) result }
     ensures live { OnOk result (IsTrue bytes.new.live) }
@@ -39,10 +48,16 @@ fn read_magic<S: Source>(bytes: &mut Bytes, source: &mut S) -> Result<(), LogFau
     let start = bytes.at();
     let mut field = [0u8; 4];
     bytes.take(&mut field, source)?;
-    if field != *b"CXR1" {
-        return Err(LogFault::Format(start));
+    if field == *b"CXR1" {
+        return Ok(Magic::Recording);
     }
-    Ok(())
+    if field == *b"CXP1" {
+        return Ok(Magic::Slice);
+    }
+    if field == *b"CXC1" {
+        return Ok(Magic::Slice);
+    }
+    Err(LogFault::Format(start))
 }
 
 // A machine that starts as the header says, with nothing in its memory yet.
@@ -107,9 +122,32 @@ fn is_memory(pages: u32, machine: &Machine)
     let _ = machine.ram().pages();
 }
 
-/// Reads the magic, the header and the pages. `Format` comes exactly where a field of these is bad: it isn't whole,
-/// breaks its rule, or is too great. `ReadFault` comes only where the source's count of faults rose, and `NoMemory`
-/// where memory for the reader or for the machine's RAM is refused.
+/// Reads the header and the pages of a recording, behind its magic. `Format` comes exactly where a field of these is
+/// bad: it isn't whole, breaks its rule, or is too great. `ReadFault` comes only where the source's count of faults
+/// rose, and `NoMemory` where memory for the reader or for the machine's RAM is refused.
+pub(crate) fn open_behind<S: Source>(
+    alloc: Global,
+    bytes: Bytes,
+    source: &mut S,
+) -> Result<Opening, LogFault>
+    requires { IsTrue bytes.live }
+    ensures opens { IsSome (S.left source.old) → Opens log_met
+        (λ o. record { header = o.reader.header; memory = o.machine.memory }) (λ o. o.reader.input) behind_magic_at
+        (over bytes (S.left source.old) (S.given source.old)) (S.left source.new) (S.given source.new) result }
+    ensures begun { IfOk result (λ o. IsBegun o.reader) }
+    ensures state { IfOk result (λ o. o.machine.state ≡ o.reader.header.start) }
+    ensures memory { IfOk result (λ o. IsMemory o.reader.header.pages o.machine.memory) }
+    ensures split { IfOk result (λ o. o.machine.split ≡ o.reader.header.split) }
+    ensures cause { HasCause LogFault.ReadFault (S.faults source.old) (S.faults source.new) result }
+{
+    let mut reader = LogReader::open(alloc, bytes, source)?;
+    let mut machine = blank_machine(alloc, reader.header())?;
+    fill(&mut reader, &mut machine, source)?;
+    is_memory(reader.header().pages, &machine);
+    Ok(Opening { reader, machine })
+}
+
+/// Reads the magic, the header and the pages of a recording. Another magic is `Format` at 0.
 pub(crate) fn open<S: Source>(alloc: Global, source: &mut S) -> Result<Opening, LogFault>
     ensures opens { IsSome (S.left source.old) → Opens log_met
         (λ o. record { header = o.reader.header; memory = o.machine.memory }) (λ o. o.reader.input) begun_at
@@ -122,10 +160,9 @@ pub(crate) fn open<S: Source>(alloc: Global, source: &mut S) -> Result<Opening, 
     ensures cause { HasCause LogFault.ReadFault (S.faults source.old) (S.faults source.new) result }
 {
     let mut bytes = Bytes::new(alloc)?;
-    read_magic(&mut bytes, source)?;
-    let mut reader = LogReader::open(alloc, bytes, source)?;
-    let mut machine = blank_machine(alloc, reader.header())?;
-    fill(&mut reader, &mut machine, source)?;
-    is_memory(reader.header().pages, &machine);
-    Ok(Opening { reader, machine })
+    let magic = read_magic(&mut bytes, source)?;
+    match magic {
+        Magic::Recording => open_behind(alloc, bytes, source),
+        Magic::Slice => Err(LogFault::Format(0)),
+    }
 }

@@ -1,17 +1,17 @@
 //! The command `window`.
 
-ghost use Rattle.std.specs.Prelude.{◌≡◌, List, ℕ, IfOk, IfErr, IsSome, Ok};
+ghost use Rattle.std.specs.Prelude.{◌≡◌, List, ℕ, false, IfOk, IfErr, IsSome, Ok};
 ghost use Rattle.cx_io.specs.Cause.{HasCause};
 ghost use Rattle.cx_codec.specs.Reads.{Begins, over, place_in};
 ghost use Rattle.cx_log.specs.Reading.{start_of};
 ghost use Rattle.cx_machine.specs.Machine.{IsMemory};
 ghost use Rattle.cx_map.specs.Bytes.{AreBytes};
-ghost use Rattle.cx_top.specs.Call.{CausedBy, Consumes, IsBeforeWriting, IsWindowStatus, JudgesAll, ReadAll};
-ghost use Rattle.cx_top.specs.Call.{input_behind};
 ghost use Rattle.cx_replay.specs.LogRecords.{IsBegun};
 ghost use Rattle.cx_replay.specs.Records.{MayBeWhole};
+ghost use Rattle.cx_top.specs.Call.{input_behind};
+ghost use Rattle.cx_top.specs.Doing.{Answers, CausedBy, Consumes, IsUntouched, Judges, Leaves};
 ghost use Rattle.cx_top.specs.Opening.{begun_at};
-ghost use Rattle.cx_top.specs.Window.{AnswersWindow, IsReadRefusal, LeavesWindow, ReadsSlice};
+ghost use Rattle.cx_top.specs.Window.{IsReadRefusal, IsWindowStatus, ReadAll, ReadsSlice, windowed};
 
 use crate::open::{Opening, open};
 use crate::status::Status;
@@ -78,17 +78,18 @@ pub(crate) fn window<S: Source, T: Sink>(
 ) -> Status
     ensures answer { IsSome (S.left source.old) → (input : List ℕ) → Begins (S.given source.new) input
         → AreBytes (input_behind (S.given source.old) input)
-        → AnswersWindow span.from span.to (input_behind (S.given source.old) input)
+        → Answers (windowed span.from span.to) (input_behind (S.given source.old) input)
         (MayBeWhole (S.left source.new) (S.given source.new) input) (input ≡ S.given source.new) result }
     ensures leaves { IsSome (S.left source.old) → (input : List ℕ) → Begins (S.given source.new) input
         → AreBytes (input_behind (S.given source.old) input)
-        → LeavesWindow span.from span.to (input_behind (S.given source.old) input)
-        (MayBeWhole (S.left source.new) (S.given source.new) input) result (T.held sink.old) (T.held sink.new) }
+        → Leaves (windowed span.from span.to) (input_behind (S.given source.old) input)
+        (MayBeWhole (S.left source.new) (S.given source.new) input) (input ≡ S.given source.new) result
+        (T.held sink.old) (T.held sink.new) }
     ensures consumes { IsSome (S.left source.old)
         → Consumes (S.left source.old) (S.given source.old) (S.left source.new) (S.given source.new)
-        (JudgesAll result) }
+        (Judges false result) }
     ensures kind { IsWindowStatus result }
-    ensures untouched { IsBeforeWriting result → sink.new ≡ sink.old }
+    ensures untouched { IsUntouched false result → sink.new ≡ sink.old }
     ensures read_cause { CausedBy Status.ReadFault (S.faults source.old) (S.faults source.new) result }
     ensures write_cause { CausedBy Status.WriteFault (T.faults sink.old) (T.faults sink.new) result }
 {

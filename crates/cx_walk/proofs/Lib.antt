@@ -1,7 +1,9 @@
 pub mod Branches
 pub mod DeviceTable
+pub mod Flags
 pub mod Found
 pub mod Listed
+pub mod QuickWalks
 pub mod RamWord
 pub mod SameTrail
 pub mod SameWord

@@ -4,4 +4,5 @@ pub mod Devices
 pub mod Entry
 pub mod Kinds
 pub mod Mode
+pub mod Quick
 pub mod Walks

@@ -1,8 +1,9 @@
 //! Translation of addresses by Sv32 (RISC-V Privileged Architecture 1.12, section 4.3), over any view of memory.
 //!
-//! `translate` gives the whole walk of an access: the entries of the page table that it read, the physical address, and
-//! what stands there, be it RAM, a word of the devices or the cause of a fault. `Words` is a view of memory;
-//! `DeviceWord` lists the words of the devices. The laws say that a walk depends on no word but those that it lists.
+//! `translate` gives the whole walk of an access: the entries of the page table that it read, the physical address,
+//! and what stands there, be it RAM, a word of the devices or the cause of a fault. `walk_quickly` gives the walk of
+//! what most accesses are, sooner. `Words` is a view of memory; `DeviceWord` lists the words of the devices. The laws
+//! say that a walk depends on no word but those that it lists.
 #![tactic(auto)]
 
 mod device;
@@ -10,6 +11,7 @@ mod entry;
 mod kind;
 mod laws;
 mod mode;
+mod quickly;
 #[cfg(test)]
 mod tests;
 mod walk;
@@ -22,5 +24,6 @@ pub use laws::{
     device_words_are_apart, places_are_in_memory,
 };
 pub use mode::is_bare;
+pub use quickly::{QuickWalk, walk_quickly};
 pub use walk::{Place, Walk, translate};
 pub use words::Words;

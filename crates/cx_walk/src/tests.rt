@@ -2,6 +2,7 @@
 
 mod devices;
 mod permissions;
+mod quick;
 mod tables;
 mod view;
 

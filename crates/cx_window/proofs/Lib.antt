@@ -1,7 +1,6 @@
 pub mod Marking
-pub mod Copies
 pub mod RunSlices
 pub mod Running
 pub mod WindowOf
-pub mod KeptEvents
 pub mod Kept
+pub mod Again

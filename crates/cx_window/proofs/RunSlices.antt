@@ -1,6 +1,7 @@
 -- What a slicer keeps, step by step.
 use Rattle.std.proofs.Common.{◌≡◌, ℕ, ◌+◌, ◌-◌, ◌<◌, ◌≤◌, ◌||◌, Bool, false, List, [], ◌∷◌, ◌++◌, length, take, drop}
-use Rattle.std.proofs.Common.{get_or, Some, IsSome, inl, inr, arith, refl, ap, sym, ◌∙◌, length-append}
+use Rattle.std.proofs.Common.{get_or, is_some, Option, Some, IsSome, inl, inr, arith, refl, ap, sym, subst, ◌∙◌}
+use Rattle.std.proofs.Common.{length-append}
 use Rattle.std.proofs.Math.Seq.{drop-nil, take-nil}
 use Rattle.std.proofs.lemmas.Bool.{cases_eq, cases_lt, eq-eqb, le-leb, le-ltb, lt-leb, lt-ltb, ne_eqb}
 use Rattle.std.proofs.lemmas.List.{append-nil, drop-append-le, drop_all, get_or-replicate, length-drop}
@@ -19,11 +20,12 @@ use Rattle.cx_run.specs.Window.{events_between}
 use Rattle.cx_run.proofs.Events.{is_between}
 use Rattle.cx_run.proofs.StepEvents.{step_more}
 use Rattle.cx_machine.specs.Machine.{MachineState}
+use Rattle.cx_ram.specs.PhysicalMemory.{SavedMemory}
 use Rattle.cx_run.specs.Run.{Run, run_of}
 use Rattle.cx_run.specs.Window.{any_in_page, is_read}
 use Rattle.cx_run.proofs.PagesRead.{is_read-more}
 use Rattle.cx_window.specs.Marks.{AddsMarks}
-use Rattle.cx_window.specs.Slicing.{HasOrder, Slices, Slicing, nothing_kept, seen_at, window_events, window_reads}
+use Rattle.cx_window.specs.Slicing.{HasOrder, IsSeen, Slices, Slicing, nothing_kept, window_events, window_reads}
 use Rattle.cx_window.proofs.Marking.{or_false}
 
 -- a window without steps has no events
@@ -42,8 +44,9 @@ empty_between a b (r ∷ events) none = rw (out r.step r.event) (empty_between a
 none_read : (n m k : ℕ) → is_read read_indices (take n (drop m [])) k ≡ false
 none_read n m k = rw (drop-nil m, take-nil n) refl
 
-pub slices_nothing : (R : Recording) (pages from to : ℕ) → Slices R [] (nothing_kept pages from to)
-slices_nothing R pages from to = record {
+pub slices_nothing : (R : Recording) (saved : List (Option SavedMemory)) (pages from to : ℕ)
+    → Slices R saved [] (nothing_kept pages from to)
+slices_nothing R saved pages from to = record {
   kept = λ above. tt;
   there = λ above passed. absurd (omega arith);
   marks = λ above k inside. get_or-replicate pages k false false
@@ -53,31 +56,39 @@ slices_nothing R pages from to = record {
 
 -- ---- the machine before a step
 
-pub slices_seen : (R : Recording) (given : List StepRec) (s : Slicing) (step : ℕ) (m : MachineState)
-    → step ≡ R.base + length given
-    → run_of (hart_step R.split) R (length given) ≡ Some (record { machine = m; records = given }) → Slices R given s
-    → Slices R given (seen_at step m s)
-slices_seen R given s step m here run so_far =
+pub slices_seen : (R : Recording) (given : List StepRec) (s new : Slicing) (step : ℕ) (m : MachineState)
+    (saved now : List (Option SavedMemory)) → step ≡ R.base + length given
+    → run_of (hart_step R.split) R (length given) ≡ Some (record { machine = m; records = given })
+    → IsSeen (step == s.from) m saved now s new → Slices R saved given s → Slices R now given new
+slices_seen R given s new step m saved now here run seen so_far =
     elim (cases_eq step s.from) [
-      | inl same ↦ rw (eq-eqb step s.from same) (record {
-        kept = λ above.
-            let count : s.from - R.base ≡ length given = omega arith in
-            (record { machine = m; records = given }, (rw count run, (refl, refl)));
-        there = λ above passed. refl;
-        marks = so_far.marks;
-        events = so_far.events;
-      })
-      | inr other ↦ rw (ne_eqb step s.from other) so_far
+      | inl same ↦
+          let kept = subst (λ (t : Bool). IsSeen t m saved now s new) (eq-eqb step s.from same) seen in
+          subst (λ (x : Slicing). Slices R now given x) (sym kept.1.1) (record {
+            kept = λ above.
+                let count : s.from - R.base ≡ length given = omega arith in
+                (record { machine = m; records = given }, (rw count run, kept.1.0));
+            there = λ above passed. refl;
+            marks = so_far.marks;
+            events = so_far.events;
+          })
+      | inr other ↦
+          let still = subst (λ (t : Bool). IsSeen t m saved now s new) (ne_eqb step s.from other) seen in
+          rw (still.0, still.1) so_far
     ]
 
 -- Once the run stood before the window's first step, the machine is kept.
-pub seen_there : (R : Recording) (given : List StepRec) (s : Slicing) (step : ℕ) (m : MachineState)
-    → step ≡ R.base + length given
-    → Slices R given s → R.base ≤ s.from → s.from ≤ step → IsSome (seen_at step m s).start
-seen_there R given s step m here so_far above passed =
+pub seen_there : (R : Recording) (given : List StepRec) (s new : Slicing) (step : ℕ) (m : MachineState)
+    (saved now : List (Option SavedMemory)) → step ≡ R.base + length given → IsSeen (step == s.from) m saved now s new
+    → Slices R saved given s → R.base ≤ s.from → s.from ≤ step → IsSome new.moment
+seen_there R given s new step m saved now here seen so_far above passed =
     elim (cases_eq step s.from) [
-      | inl same ↦ rw (eq-eqb step s.from same) refl
-      | inr other ↦ rw (ne_eqb step s.from other) (so_far.there above (omega (arith, other)))
+      | inl same ↦
+          let kept = subst (λ (t : Bool). IsSeen t m saved now s new) (eq-eqb step s.from same) seen in
+          ap (λ (x : Slicing). is_some x.moment) kept.1.1
+      | inr other ↦
+          let still = subst (λ (t : Bool). IsSeen t m saved now s new) (ne_eqb step s.from other) seen in
+          rw still.1 (so_far.there above (omega (arith, other)))
     ]
 
 -- ---- one step more
@@ -178,12 +189,13 @@ events_fed R s step n marked due above order next are so_far =
           ]
     ]
 
-pub slices_fed : (R : Recording) (given : List StepRec) (s : Slicing) (new : List Bool) (events : List Recorded)
+pub slices_fed : (R : Recording) (saved : List (Option SavedMemory)) (given : List StepRec) (s : Slicing)
+    (new : List Bool) (events : List Recorded)
     (step : ℕ) (rec : StepRec) (marked : Bool) (due : Due) → step ≡ R.base + length given
     → AddsMarks s.marks new (window_reads s step rec) → events ≡ s.events ++ window_events s step marked due
-    → AreEventsOf R step marked due → (R.base ≤ s.from → s.from ≤ step → IsSome s.start)
-    → Slices R given s → Slices R (given ++ rec ∷ []) (record s { marks = new; events = events })
-slices_fed R given s new events step rec marked due here adds more are seen so_far = record {
+    → AreEventsOf R step marked due → (R.base ≤ s.from → s.from ≤ step → IsSome s.moment)
+    → Slices R saved given s → Slices R saved (given ++ rec ∷ []) (record s { marks = new; events = events })
+slices_fed R saved given s new events step rec marked due here adds more are seen so_far = record {
   events = λ above order.
       let size = length-append given (rec ∷ []) in
       let before = so_far.events above order ∙ ap (λ n. events_between s.from (min s.to n) R.events) (sym here) in
@@ -198,11 +210,12 @@ slices_fed R given s new events step rec marked due here adds more are seen so_f
 -- ---- the window
 
 -- Where all steps have these records, the pages that are marked are those that the window's steps read.
-pub window_marks : (R : Recording) (given : List StepRec) (s : Slicing) (after : Run StepRec) (rest : List StepRec)
-    (k : ℕ) → Slices R given s → R.base ≤ s.from → s.from ≤ s.to
+pub window_marks : (R : Recording) (saved : List (Option SavedMemory)) (given : List StepRec) (s : Slicing)
+    (after : Run StepRec) (rest : List StepRec)
+    (k : ℕ) → Slices R saved given s → R.base ≤ s.from → s.from ≤ s.to
     → k < length s.marks → given ≡ after.records ++ rest → length after.records ≡ s.to - R.base
     → get_or s.marks k false ≡ is_read read_indices (drop (s.from - R.base) after.records) k
-window_marks R given s after rest k so_far above some inside parts count =
+window_marks R saved given s after rest k so_far above some inside parts count =
     let m : ℕ = s.from - R.base in
     let size : length (drop m after.records) ≡ s.to - s.from = omega (arith, length-drop m after.records) in
     let front : drop m given ≡ drop m after.records ++ rest =

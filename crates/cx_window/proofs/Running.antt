@@ -1,10 +1,10 @@
 -- What a slicer keeps of a replay, step by step.
-use Rattle.std.proofs.Common.{◌≡◌, ℕ, ◌+◌, ◌≤◌, ◌==◌, Bool, true, false, if◌then◌else◌, List, [], ◌∷◌, ◌++◌, length}
+use Rattle.std.proofs.Common.{◌≡◌, ℕ, ◌+◌, ◌≤◌, ◌==◌, Bool, true, false, List, [], ◌∷◌, ◌++◌, length}
 use Rattle.std.proofs.Common.{Err}
-use Rattle.std.proofs.Common.{Ok, None, Some, IfSome, IsSome, arith, refl, ap, sym, subst, ◌∙◌}
+use Rattle.std.proofs.Common.{Ok, Option, None, Some, IfSome, IsSome, arith, ap, sym, subst, ◌∙◌}
 use Rattle.cx_csr.specs.Keeps.{Keeps}
 use Rattle.cx_hart.specs.HartStep.{hart_step}
-use Rattle.cx_hart.specs.Whole.{Whole, machine_of}
+use Rattle.cx_hart.specs.Whole.{AtMoment, Whole, machine_at, machine_of}
 use Rattle.cx_hart.specs.declared.record.StepRec.{StepRec}
 use Rattle.cx_log.specs.Reading.{Opened}
 use Rattle.cx_log.specs.Recording.{Recording}
@@ -17,24 +17,14 @@ use Rattle.cx_replay.specs.declared.progress.Progress.{Progress}
 use Rattle.cx_run.specs.Due.{due_at}
 use Rattle.cx_replay.specs.declared.fault.ReplayFault.{ReplayFault}
 use Rattle.cx_replay.specs.declared.fault.ReplayFault.TheVariants as fault
+use Rattle.cx_ram.specs.PhysicalMemory.{SavedMemory}
 use Rattle.cx_run.specs.Run.{run_of}
 use Rattle.cx_run.specs.StepEvents.{has_mark}
 use Rattle.cx_window.specs.Cut.{IsShown, StopsFor}
 use Rattle.cx_window.specs.Marks.{AddsMarks}
-use Rattle.cx_window.specs.Slicing.{HasOrder, IsFit, SameWindow, Slices, Slicing, seen_at, window_events, window_reads}
+use Rattle.cx_window.specs.Slicing.{HasOrder, IsFit, IsMomentOf, IsSeen, SameWindow, Slices, Slicing, window_events}
+use Rattle.cx_window.specs.Slicing.{window_reads}
 use Rattle.cx_window.proofs.RunSlices.{AreEventsOf, seen_there, slices_fed, slices_seen}
-
--- ---- the window stays
-
-pub seen_same : (s : Slicing) (step : ℕ) (m : MachineState) → SameWindow s (seen_at step m s)
-seen_same s step m = by_case (step == s.from)
-  where
-    by_case : (here : Bool) → SameWindow s (if here then record s { start = Some m.state; memory = m.memory } else s)
-    by_case true = record { from = refl; to = refl; size = refl }
-    by_case false = record { from = refl; to = refl; size = refl }
-
-seen_from : (s : Slicing) (step : ℕ) (m : MachineState) → (seen_at step m s).from ≡ s.from
-seen_from s step m = (seen_same s step m).from
 
 -- a fault of the replay
 pub stops_of : (o : Opened) (whole : Scan) (given : List StepRec) (m : Whole) (p : Progress) (bytes : List ℕ)
@@ -56,22 +46,25 @@ run_by_flag o whole given m p bytes Has stands =
 
 -- the machine before the next step was shown
 pub replay_seen : (o : Opened) (whole : Scan) (given : List StepRec) (m : Whole) (p : Progress) (bytes : List ℕ)
-    (Has : Scan → Type 0) (s : Slicing) (step : ℕ) → Stands o whole given m p bytes Has → step ≡ p.at
-    → Slices (decoded o whole) given s → Slices (decoded o whole) given (seen_at step (machine_of m) s)
-replay_seen o whole given m p bytes Has s step stands at slices =
-    slices_seen (decoded o whole) given s step (machine_of m) (at ∙ stands.count)
-    (run_by_flag o whole given m p bytes Has stands) slices
+    (Has : Scan → Type 0) (saved : List (Option SavedMemory)) (s new : Slicing) (step : ℕ)
+    → Stands o whole given m p bytes Has → step ≡ p.at
+    → IsSeen (step == s.from) (machine_of m) saved m.saved s new → Slices (decoded o whole) saved given s
+    → Slices (decoded o whole) m.saved given new
+replay_seen o whole given m p bytes Has saved s new step stands at seen slices =
+    slices_seen (decoded o whole) given s new step (machine_of m) saved m.saved (at ∙ stands.count)
+    (run_by_flag o whole given m p bytes Has stands) seen slices
 
 -- there is no step more
 pub replay_ends : (o : Opened) (whole : Scan) (given : List StepRec) (m : Whole) (p : Progress) (bytes : List ℕ)
     (Has : Scan → Type 0) (m' : Whole) (p' : Progress) (bytes' : List ℕ) (Has' : Scan → Type 0) (due : Due) (end : ℕ)
-    (may cut : Type 0) (Stood : List StepRec → Type 0) (s new : Slicing) (step at : ℕ)
-    → Stands o whole given m p bytes Has → step ≡ p.at → at ≡ p.at
-    → new ≡ seen_at step (machine_of m) s → Slices (decoded o whole) given s
+    (may cut : Type 0) (Stood : List StepRec → Type 0) (saved : List (Option SavedMemory)) (s new : Slicing)
+    (step at : ℕ)
+    → Stands o whole given m p bytes Has → step ≡ p.at → at ≡ p.at → m'.saved ≡ m.saved
+    → IsSeen (step == s.from) (machine_of m) saved m.saved s new → Slices (decoded o whole) saved given s
     → Answers o whole given m' p' bytes' Has' due end may cut (Ok None)
-    → IsShown o whole at new Stood may false
-replay_ends o whole given m p bytes Has m' p' bytes' Has' due end may cut Stood s new step at stands here now seen
-    slices answers =
+    → IsShown o whole at m'.saved new Stood may false
+replay_ends o whole given m p bytes Has m' p' bytes' Has' due end may cut Stood saved s new step at stands here now
+    still seen slices answers =
     λ h. record {
       good = (answers.1 h).0;
       gave = record {
@@ -80,45 +73,41 @@ replay_ends o whole given m p bytes Has m' p' bytes' Has' due end may cut Stood 
         run = run_by_flag o whole given m p bytes Has stands;
         all = answers.0;
         ends = now ∙ stands.count ∙ sym answers.0;
-        slices = subst (λ (x : Slicing). Slices (decoded o whole) given x) (sym seen)
-            (replay_seen o whole given m p bytes Has s step stands here slices);
+        slices = rw still (replay_seen o whole given m p bytes Has saved s new step stands here seen slices);
       };
     }
 
 -- one step more was shown
 pub replay_goes : (o : Opened) (whole : Scan) (given : List StepRec) (m : Whole) (p : Progress) (bytes : List ℕ)
     (Has : Scan → Type 0) (m' : Whole) (p' : Progress) (bytes' : List ℕ) (Has' : Scan → Type 0) (due : Due) (end : ℕ)
-    (may cut : Type 0) (s seen new : Slicing) (step at : ℕ) (rec : StepRec) (marked : Bool)
-    → Stands o whole given m p bytes Has → step ≡ p.at
-    → seen ≡ seen_at step (machine_of m) s → Slices (decoded o whole) given s
+    (may cut : Type 0) (saved : List (Option SavedMemory)) (s mid new : Slicing) (step at : ℕ) (rec : StepRec)
+    (marked : Bool)
+    → Stands o whole given m p bytes Has → step ≡ p.at → m'.saved ≡ m.saved
+    → IsSeen (step == s.from) (machine_of m) saved m.saved s mid → SameWindow s mid
+    → Slices (decoded o whole) saved given s
     → Answers o whole given m' p' bytes' Has' due end may cut (Ok (Some rec))
     → (HasOrder (decoded o whole) → marked ≡ has_mark (o.header.base + length given) whole.events)
-    → AddsMarks seen.marks new.marks (window_reads seen step rec)
-    → new.events ≡ seen.events ++ window_events seen step marked due
-    → new ≡ record seen { marks = new.marks; events = new.events }
-    → IsShown o whole at new (λ now. Stands o whole now m' p' bytes' Has') may true
-replay_goes o whole given m p bytes Has m' p' bytes' Has' due end may cut s seen new step at rec marked stands here is
-    slices answers mark adds more same =
+    → AddsMarks mid.marks new.marks (window_reads mid step rec)
+    → new.events ≡ mid.events ++ window_events mid step marked due
+    → new ≡ record mid { marks = new.marks; events = new.events }
+    → IsShown o whole at m'.saved new (λ now. Stands o whole now m' p' bytes' Has') may true
+replay_goes o whole given m p bytes Has m' p' bytes' Has' due end may cut saved s mid new step at rec marked stands here
+    still seen window slices answers mark adds more same =
     let R : Recording = decoded o whole in
     let count : step ≡ o.header.base + length given = here ∙ stands.count in
-    let shown : Slices R given seen = subst (λ (x : Slicing). Slices R given x) (sym is)
-    (replay_seen o whole given m p bytes Has s step stands here slices) in
+    let shown : Slices R m.saved given mid =
+    replay_seen o whole given m p bytes Has saved s mid step stands here seen slices in
     let are : AreEventsOf R step marked due = record {
       handed = answers.1 ∙ ap (λ n. due_at whole.events n) (sym count);
       mark = λ order. mark order ∙ ap (λ n. has_mark n whole.events) (sym count);
     } in
-    let from : seen.from ≡ s.from = ap (λ (x : Slicing). x.from) is ∙ seen_from s step (machine_of m) in
-    let there : R.base ≤ seen.from → seen.from ≤ step → IsSome seen.start =
-    λ above passed. subst (λ (x : Slicing). IsSome x.start) (sym is)
-    (seen_there R given s step (machine_of m) count slices (omega (arith, above, from)) (omega (arith, passed, from)))
-    in (
-      given ++ rec ∷ [],
-      (
-        answers.0,
-        subst (λ (x : Slicing). Slices R (given ++ rec ∷ []) x) (sym same)
-            (slices_fed R given seen new.marks new.events step rec marked due count adds more are there shown),
-      ),
-    )
+    let there : R.base ≤ mid.from → mid.from ≤ step → IsSome mid.moment =
+    λ above passed. seen_there R given s mid step (machine_of m) saved m.saved count seen slices
+    (omega (arith, above, window.from)) (omega (arith, passed, window.from)) in
+    let fed : Slices R m.saved (given ++ rec ∷ []) new =
+    subst (λ (x : Slicing). Slices R m.saved (given ++ rec ∷ []) x) (sym same)
+    (slices_fed R m.saved given mid new.marks new.events step rec marked due count adds more are there shown) in
+    (given ++ rec ∷ [], (answers.0, rw still fed))
 
 pub same_on : (old mid new : Slicing) → SameWindow old mid → SameWindow mid new → SameWindow old new
 same_on old mid new first last = record {
@@ -135,22 +124,26 @@ fed_same s new step rec adds is = record {
   size = adds.size;
 }
 
-pub fed_fits : (pages : ℕ) (s new : Slicing) (step : ℕ) (rec : StepRec)
+pub fed_fits : (pages : ℕ) (saved : List (Option SavedMemory)) (s new : Slicing) (step : ℕ) (rec : StepRec)
     → AddsMarks s.marks new.marks (window_reads s step rec)
-    → new ≡ record s { marks = new.marks; events = new.events } → IsFit pages s → IsFit pages new
-fed_fits pages s new step rec adds is fit = record {
+    → new ≡ record s { marks = new.marks; events = new.events } → IsFit pages saved s → IsFit pages saved new
+fed_fits pages saved s new step rec adds is fit = record {
   marks = adds.size ∙ fit.marks;
-  start = subst (λ (x : Slicing). IfSome x.start (Keeps pages)) (sym is) fit.start;
-  memory = subst (λ (x : Slicing). IfSome x.start (λ start. length x.memory ≡ size_of_pages pages)) (sym is) fit.memory;
+  moment = subst (λ (x : Slicing). IfSome x.moment (IsMomentOf pages saved)) (sym is) fit.moment;
 }
 
--- the machine that is shown fits
-pub seen_fits : (pages step : ℕ) (m : MachineState) (s : Slicing) → Keeps (pages_of m.memory) m.state
-    → length m.memory ≡ size_of_pages pages → IsFit pages s → IsFit pages (seen_at step m s)
-seen_fits pages step m s keeps size fit = by_case (step == s.from)
-  where
-    by_case : (here : Bool) → IsFit pages (if here then record s { start = Some m.state; memory = m.memory } else s)
-    by_case true =
-        let count : pages_of m.memory ≡ pages = omega (arith, size) in
-        record { marks = fit.marks; start = subst (λ (n : ℕ). Keeps n m.state) count keeps; memory = size }
-    by_case false = fit
+-- the machine that is kept fits
+pub kept_fits : (pages : ℕ) (now : List (Option SavedMemory)) (m : MachineState) (s new : Slicing) (x : AtMoment)
+    → machine_at now x ≡ Some m → Keeps (pages_of m.memory) x.state → length m.memory ≡ size_of_pages pages
+    → new ≡ record s { moment = Some x } → length s.marks ≡ pages → IsFit pages now new
+kept_fits pages now m s new x is keeps size made marks =
+    let count : pages_of m.memory ≡ pages = omega (arith, size) in
+    subst (λ (y : Slicing). IsFit pages now y) (sym made) (record {
+      marks = marks;
+      moment = record {
+        machine = m;
+        is = is;
+        keeps = subst (λ (n : ℕ). Keeps n x.state) count keeps;
+        size = size;
+      };
+    })

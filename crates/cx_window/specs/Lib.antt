@@ -2,4 +2,3 @@ pub mod Marks
 pub mod Slicing
 pub mod Slice
 pub mod Cut
-pub mod Events

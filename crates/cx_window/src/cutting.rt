@@ -1,8 +1,9 @@
 //! Cutting a window from a replay.
 
 ghost use Rattle.std.specs.Bool.{OnFalse};
-ghost use Rattle.std.specs.Prelude.{◌≡◌, ◌+◌, ◌<◌, ◌^◌, ℕ, List, [], length, IfOk, IsSome, IsTrue, OnOk};
+ghost use Rattle.std.specs.Prelude.{◌≡◌, ◌==◌, ◌+◌, ◌<◌, ◌^◌, ℕ, List, [], length, IfOk, IsSome, IsTrue, OnOk};
 ghost use Rattle.cx_codec.specs.Reads.{Begins};
+ghost use Rattle.cx_hart.specs.Whole.{machine_of};
 ghost use Rattle.cx_hart.specs.declared.record.StepRec.{StepRec};
 ghost use Rattle.cx_io.specs.Cause.{HasCause};
 ghost use Rattle.cx_log.specs.Order.{IsHeader};
@@ -12,16 +13,41 @@ ghost use Rattle.cx_map.specs.Map.{size_of_pages};
 ghost use Rattle.cx_replay.specs.Records.{GaveMore, MayBeWhole};
 ghost use Rattle.cx_replay.specs.Replaying.{Stands, StepsOn};
 ghost use Rattle.cx_window.specs.Cut.{Cuts, IsJudged, Ran, Turned};
-ghost use Rattle.cx_window.specs.Slicing.{IsFit, SameWindow, Slices};
+ghost use Rattle.cx_window.specs.Slicing.{IsFit, IsSeen, SameWindow, Slices};
 
 use crate::slice::Slice;
 use crate::slicer::Slicer;
 use crate::span::Span;
 use cx_hart::StepRec;
-use cx_io::Source;
+use cx_io::{NoMemory, Source};
 use cx_log::Header;
 use cx_replay::{Records, Replay, ReplayFault};
 use std::alloc::Global;
+
+// Keeps the machine, where the window's first step comes next.
+fn see<R: Records>(replay: &mut Replay<R>, slicer: &mut Slicer) -> Result<(), NoMemory>
+    ensures seen { OnOk result (IsSeen (replay.old.progress.at == slicer.old.from) (machine_of replay.new.machine)
+        replay.old.machine.saved replay.new.machine.saved slicer.old slicer.new) }
+    ensures stands { (gave input : List ℕ) (end : ℕ) (o : Opened) (whole : Scan) (given : List StepRec)
+        → Stands o whole given replay.old.machine replay.old.progress (R.seen replay.old.records).bytes
+        (R.has replay.old.records gave input end)
+        → Stands o whole given replay.new.machine replay.new.progress (R.seen replay.new.records).bytes
+        (R.has replay.new.records gave input end) }
+    ensures fit { IsFit (R.seen replay.old.records).pages replay.old.machine.saved slicer.old
+        → IsFit (R.seen replay.old.records).pages replay.new.machine.saved slicer.new }
+    ensures window { SameWindow slicer.old slicer.new }
+    ensures at { replay.new.progress.at ≡ replay.old.progress.at }
+    ensures same { replay.new ≡ record replay.old {
+      machine = record replay.old.machine { saved = replay.new.machine.saved };
+    } }
+{
+    if !slicer.starts_at(replay.at()) {
+        return Ok(());
+    }
+    let moment = replay.save()?;
+    slicer.keep(moment);
+    Ok(())
+}
 
 // Takes the next step, and shows it to the slicer; false where the recording was read to its end.
 fn turn<R: Records, S: Source>(
@@ -37,23 +63,25 @@ fn turn<R: Records, S: Source>(
         → (end : ℕ) (o : Opened) (whole : Scan) (given : List StepRec)
         → Stands o whole given replay.old.machine replay.old.progress (R.seen replay.old.records).bytes
         (R.has replay.old.records (S.given source.old) input end)
-        → Slices (decoded o whole) given slicer.old
-        → Turned o whole replay.new.progress.at slicer.new
+        → Slices (decoded o whole) replay.old.machine.saved given slicer.old
+        → Turned o whole replay.new.progress.at replay.new.machine.saved slicer.new
         (λ now. Stands o whole now replay.new.machine replay.new.progress (R.seen replay.new.records).bytes
         (R.has replay.new.records (S.given source.new) input end)) end
         (MayBeWhole (S.left source.new) (S.given source.new) input) (input ≡ S.given source.new) result }
     ensures spent { IsSome (S.left source.old)
         → IfOk result (λ going. OnFalse going (R.leaves (S.left source.new))) }
     ensures same { SameWindow slicer.old slicer.new }
-    ensures fit { (R.seen replay.old.records).pages ≡ (R.seen replay.new.records).pages
-        × (IsFit (R.seen replay.old.records).pages slicer.old → IsFit (R.seen replay.old.records).pages slicer.new) }
+    ensures pages { (R.seen replay.old.records).pages ≡ (R.seen replay.new.records).pages }
+    ensures fit { IsFit (R.seen replay.old.records).pages replay.old.machine.saved slicer.old
+        → IsFit (R.seen replay.old.records).pages replay.new.machine.saved slicer.new }
+    ensures split { replay.new.machine.split ≡ replay.old.machine.split }
     ensures live { OnOk result (IsTrue replay.new.live) }
     ensures at { OnOk result (StepsOn replay.old.progress.at replay.new.progress.at result) }
     ensures small { replay.old.progress.at < 2 ^ 64 }
     ensures cause { HasCause ReplayFault.ReadFault (S.faults source.old) (S.faults source.new) result }
 {
     let step = replay.at();
-    slicer.see(step, replay.machine())?;
+    see(replay, slicer)?;
     if !replay.next_into(rec, source)? {
         return Ok(false);
     }
@@ -74,13 +102,15 @@ fn run_through<R: Records, S: Source>(
         → (end : ℕ) (o : Opened) (whole : Scan)
         → Stands o whole [] replay.old.machine replay.old.progress (R.seen replay.old.records).bytes
         (R.has replay.old.records (S.given source.old) input end)
-        → Slices (decoded o whole) [] slicer.old
-        → Ran o whole replay.new.progress.at slicer.new end
+        → Slices (decoded o whole) replay.old.machine.saved [] slicer.old
+        → Ran o whole replay.new.progress.at replay.new.machine.saved slicer.new end
         (MayBeWhole (S.left source.new) (S.given source.new) input) (input ≡ S.given source.new) result }
     ensures spent { IsSome (S.left source.old) → OnOk result (R.leaves (S.left source.new)) }
     ensures same { SameWindow slicer.old slicer.new }
-    ensures fit { IsFit (R.seen replay.old.records).pages slicer.old
-        → IsFit (R.seen replay.old.records).pages slicer.new }
+    ensures pages { (R.seen replay.old.records).pages ≡ (R.seen replay.new.records).pages }
+    ensures fit { IsFit (R.seen replay.old.records).pages replay.old.machine.saved slicer.old
+        → IsFit (R.seen replay.old.records).pages replay.new.machine.saved slicer.new }
+    ensures split { replay.new.machine.split ≡ replay.old.machine.split }
     ensures cause { HasCause ReplayFault.ReadFault (S.faults source.old) (S.faults source.new) result }
 {
     let mut rec = StepRec::BLANK;
@@ -105,6 +135,7 @@ pub fn cut<R: Records, S: Source>(
     requires live { IsTrue replay.live }
     requires header { IsHeader header.now }
     requires pages { (R.seen replay.records).pages ≡ header.now.pages }
+    requires split { replay.machine.split ≡ header.now.split }
     ensures follows { IsSome (S.left source.old) → GaveMore (S.left source.old) (S.given source.old) (S.left source.new)
         (S.given source.new) }
     ensures cuts { IsSome (S.left source.old) → (input : List ℕ) → Begins (S.given source.new) input
@@ -122,5 +153,5 @@ pub fn cut<R: Records, S: Source>(
     if !span.lies_in(header.base, replay.at()) {
         return Ok(None);
     }
-    Ok(slicer.finish(header))
+    Ok(slicer.finish(header, replay.into_machine()))
 }

@@ -1,7 +1,7 @@
 //! A window that is cut from a run, and its recording.
 
 ghost use Rattle.std.specs.Prelude.{◌≡◌, ◌+◌, ◌<◌, ◌≤◌, false, not, ◌&&◌, slice_index_or, if◌then◌else◌, OnOk, OnErr};
-ghost use Rattle.std.specs.Prelude.{IsSome, IsTrue};
+ghost use Rattle.std.specs.Prelude.{ℕ, List, [], IsSome, IsTrue};
 ghost use Rattle.std.specs.Io.KnownBytes.{Appends};
 ghost use Rattle.cx_io.specs.Cause.{HasCause};
 ghost use Rattle.cx_codec.specs.Blocks.{HasFront};
@@ -9,37 +9,42 @@ ghost use Rattle.cx_codec.specs.Puts.{Puts, onto};
 ghost use Rattle.cx_ram.specs.PhysicalMemory.{is_zero, page_of};
 ghost use Rattle.cx_log.specs.Order.{IsHeader};
 ghost use Rattle.cx_log.specs.Text.{header_of, page_count, page_text, pages_text, recording_text};
-ghost use Rattle.cx_window.specs.Slice.{IsWhole, written_of};
+ghost use Rattle.cx_replay.specs.KeptRecords.{HasKept, scan_of};
+ghost use Rattle.cx_replay.specs.Replaying.{Stands};
+ghost use Rattle.cx_window.specs.Slice.{IsHeld, IsWhole, memory_at, opened_of, written_of};
 
-use crate::events::WindowEvents;
 use cx_codec::OutFault;
+use cx_hart::{Machine, Moment};
 use cx_io::Sink;
 use cx_log::{Header, LogWriter};
 use cx_map::PAGE_SIZE;
 use cx_ram::is_all_zero;
+use cx_replay::{KeptEvents, KeptReader, Replay};
 use std::alloc::Global;
 use std::marker::Model;
 
-/// A window that is ready to be written: what stands in front of its pages, the step behind its last, the memory before
-/// its first step, for each page whether a step of the window read a byte of it, and the events of its steps.
+/// A window that is ready to be written, and to be run again: what stands in front of its pages, the step behind its
+/// last, the machine with a moment of it before the window's first step, for each page whether a step of the window
+/// read a byte of it, and the events of its steps.
 #[derive(Drop)]
 pub struct Slice {
     header: Header,
     to: u64,
-    memory: Vec<u8>,
+    machine: Machine,
+    moment: Moment,
     marks: Vec<bool>,
-    events: WindowEvents,
+    events: KeptEvents,
 }
 
 impl Model for Slice {
-    ghost use Rattle.cx_window.specs.Slice.{IsWhole, Sliced};
+    ghost use Rattle.cx_window.specs.Slice.{IsHeld, IsWhole, Sliced, memory_at};
 
     ghost Value = { Sliced };
 
     ghost view = { λ s. record {
       header = s.header;
       to = s.to;
-      memory = s.memory.items;
+      memory = memory_at s.machine.saved s.moment;
       marks = s.marks.items;
       events = s.events;
     } };
@@ -47,10 +52,10 @@ impl Model for Slice {
     ghost invariant = { λ s. IsWhole (record {
       header = s.header;
       to = s.to;
-      memory = s.memory.items;
+      memory = memory_at s.machine.saved s.moment;
       marks = s.marks.items;
       events = s.events;
-    }) };
+    }) × IsHeld s.header s.machine s.moment };
 }
 
 // One, where it holds.
@@ -66,22 +71,24 @@ impl Slice {
     pub(crate) fn of(
         header: Header,
         to: u64,
-        memory: Vec<u8>,
+        machine: Machine,
+        moment: Moment,
         marks: Vec<bool>,
-        events: WindowEvents,
+        events: KeptEvents,
     ) -> Slice
-        requires { IsWhole (record {
+        requires whole { IsWhole (record {
           header = header;
           to = to;
-          memory = memory.items;
+          memory = memory_at machine.saved moment;
           marks = marks.items;
           events =
               events;
         }) }
+        requires held { IsHeld header machine moment }
         ensures { result ≡ record {
           header = header;
           to = to;
-          memory = memory.items;
+          memory = memory_at machine.saved moment;
           marks = marks.items;
           events =
               events;
@@ -90,7 +97,8 @@ impl Slice {
         Slice {
             header,
             to,
-            memory,
+            machine,
+            moment,
             marks,
             events,
         }
@@ -101,11 +109,7 @@ impl Slice {
         requires { page < self.now.header.pages }
         ensures { result.now ≡ page_of self.now.memory page }
     {
-        let start = page as usize * PAGE_SIZE;
-        match self.memory[start..start + PAGE_SIZE].as_array() {
-            Some(bytes) => bytes,
-            None => unreachable!(),
-        }
+        self.machine.moment_page(&self.moment, page)
     }
 
     // Whether a page is written: it was read, and isn't all zero.
@@ -207,5 +211,27 @@ impl Slice {
         self.put_pages(&mut writer, sink)?;
         self.events.put(self.to, &mut writer, sink)?;
         writer.end(self.to, sink)
+    }
+
+    /// A replay of the window's steps, from the machine before the first of them on. Its memory is whole, also where no
+    /// step reads it.
+    pub fn replay(self, alloc: Global) -> Replay<KeptReader>
+        ensures live { IsTrue result.live }
+        ensures at { result.progress.at ≡ self.header.base }
+        ensures stands { (given input : List ℕ) (offset : ℕ)
+            → Stands (opened_of self) (scan_of self.events self.to) [] result.machine result.progress
+            result.records.bytes (HasKept result.records given input offset) }
+    {
+        let Slice {
+            header,
+            to,
+            mut machine,
+            moment,
+            events,
+            ..
+        } = self;
+        machine.restore(&moment);
+        machine.forget(moment);
+        Replay::of_kept(alloc, machine, &header, events, to)
     }
 }

@@ -1,36 +1,32 @@
 //! What is kept of a run for its window.
 
-ghost use Rattle.std.specs.Prelude.{◌≡◌, ◌≤◌, ◌++◌, ℕ, length, IfOk, OnErr, OnOk};
-ghost use Rattle.cx_hart.specs.Whole.{machine_of};
+ghost use Rattle.std.specs.Prelude.{◌≡◌, ◌≤◌, ◌==◌, ◌++◌, length, IfOk, OnOk, Some};
 ghost use Rattle.cx_map.specs.Map.{size_of_pages};
 ghost use Rattle.cx_window.specs.Marks.{AddsMarks};
 ghost use Rattle.cx_log.specs.Order.{IsHeader};
 ghost use Rattle.cx_window.specs.Slice.{Finishes};
-ghost use Rattle.cx_window.specs.Slicing.{IsFit, nothing_kept, seen_at, window_events, window_reads};
+ghost use Rattle.cx_window.specs.Slicing.{IsFit, nothing_kept, window_events, window_reads};
 
-use crate::events::WindowEvents;
 use crate::marks::{blank, mark_reads};
 use crate::slice::Slice;
-use cx_csr::State;
-use cx_hart::{Machine, StepRec};
+use cx_hart::{Machine, Moment, StepRec};
 use cx_io::NoMemory;
 use cx_log::{Behind, Header, STEP_LIMIT};
-use cx_ram::Ram;
-use cx_replay::DueRecords;
+use cx_replay::{DueRecords, KeptEvents};
 use std::alloc::Global;
 use std::marker::Model;
 
-/// A slicer of the window from one step up to but not including another. It is shown the machine before each step and
-/// the record behind it; it keeps the machine before the window's first step, and marks the pages that its steps read.
+/// A slicer of the window from one step up to but not including another. It is handed a moment of the machine before
+/// the window's first step, and shown the record of each step; it marks the pages that the window's steps read, and
+/// keeps their events.
 #[derive(Drop)]
 pub struct Slicer {
     alloc: Global,
     from: u64,
     to: u64,
-    start: Option<State>,
-    memory: Vec<u8>,
+    moment: Option<Moment>,
     marks: Vec<bool>,
-    events: WindowEvents,
+    events: KeptEvents,
 }
 
 impl Model for Slicer {
@@ -41,25 +37,10 @@ impl Model for Slicer {
     ghost view = { λ s. record {
       from = s.from;
       to = s.to;
-      start = s.start;
-      memory = s.memory.items;
+      moment = s.moment;
       marks = s.marks.items;
       events = s.events;
     } };
-}
-
-// A copy of the bytes of RAM.
-fn copy(alloc: Global, ram: &Ram) -> Result<Vec<u8>, NoMemory>
-    ensures { IfOk result (λ v. v.items ≡ ram.now.memory) }
-{
-    let mut memory = Vec::new(alloc);
-    for page in 0..ram.pages() {
-        match memory.extend_from_slice(ram.page_bytes(page)) {
-            Ok(()) => {}
-            Err(_) => return Err(NoMemory),
-        }
-    }
-    Ok(memory)
 }
 
 impl Slicer {
@@ -72,26 +53,24 @@ impl Slicer {
             alloc,
             from,
             to,
-            start: None,
-            memory: Vec::new(alloc),
+            moment: None,
             marks,
-            events: WindowEvents::new(alloc),
+            events: KeptEvents::new(alloc),
         })
     }
 
-    /// Shows it the machine before a step. It takes memory where that is the window's first step.
-    pub fn see(&mut self, step: u64, machine: &Machine) -> Result<(), NoMemory>
-        ensures seen { OnOk result (self.new ≡ seen_at step (machine_of machine.now) self.old) }
-        ensures refused { OnErr result (self.new ≡ self.old) }
-        ensures fit { (pages : ℕ) → IsFit pages self.old → length machine.now.memory ≡ size_of_pages pages
-            → IsFit pages self.new }
+    /// Whether the window's first step is this one.
+    pub fn starts_at(&self, step: u64) -> bool
+        ensures { result ≡ (step == self.now.from) }
     {
-        let state = machine.state();
-        if step == self.from {
-            self.memory = copy(self.alloc, machine.ram())?;
-            self.start = Some(*state);
-        }
-        Ok(())
+        step == self.from
+    }
+
+    /// Hands it the moment of the machine before the window's first step.
+    pub fn keep(&mut self, moment: Moment)
+        ensures { self.new ≡ record self.old { moment = Some moment } }
+    {
+        self.moment = Some(moment);
     }
 
     /// Shows it the record of a step, whether a mark stands at the step, and what was due to it. It takes memory where
@@ -116,17 +95,21 @@ impl Slicer {
         Ok(())
     }
 
-    /// What was kept of a window of a recording with this header; None exactly where no machine was seen before its
-    /// first step, or the events that were kept aren't in order, as those of a recording are.
-    pub(crate) fn finish(self, header: &Header) -> Option<Slice>
+    /// What was kept of a window of a recording with this header and of this machine; None exactly where no moment of
+    /// the machine was kept before the window's first step, or the events that were kept aren't in order, as those of a
+    /// recording are.
+    pub(crate) fn finish(self, header: &Header, machine: Machine) -> Option<Slice>
         requires header { IsHeader header.now }
-        requires fit { IsFit header.now.pages self }
-        ensures { Finishes header.now self result }
+        requires fit { IsFit header.now.pages machine.saved self }
+        requires size { length machine.memory ≡ size_of_pages header.now.pages }
+        requires split { machine.split ≡ header.now.split }
+        ensures { Finishes header.now machine.saved self result }
     {
-        let start = self.start?;
+        let moment = self.moment?;
         if self.from >= STEP_LIMIT {
             return None;
         }
+        let start = *moment.state();
         let behind = Behind::at_start(self.from, &start);
         if !self.events.are_in_order(header.pages, &behind, self.to) {
             return None;
@@ -139,6 +122,6 @@ impl Slicer {
             start,
             count: header.count,
         };
-        Some(Slice::of(header, self.to, self.memory, self.marks, self.events))
+        Some(Slice::of(header, self.to, machine, moment, self.marks, self.events))
     }
 }

@@ -13,4 +13,5 @@ loop-n-preserved c =
           c.in_ok-move_one.ensures.machine;
       size = c.in_ok-move_one.ensures.size ∙ before.size;
       split = c.in_ok-move_one.ensures.split ∙ before.split;
+      saved = c.in_ok-move_one.ensures.saved ∙ before.saved;
     }

@@ -8,4 +8,5 @@ invariant-loop-n l = record {
   machine : machine_of l.machine ≡ after_transfers (take l.n l.moves) (machine_of l.fn.machine);
   size : length l.machine.memory ≡ length l.fn.machine.memory;
   split : l.machine.split ≡ l.fn.machine.split;
+  saved : l.machine.saved ≡ l.fn.machine.saved;
 }

@@ -1,9 +1,9 @@
 use Rattle.std.proofs.lemmas.Result.{err_from_is_err_and}
-use Rattle.std.proofs.Common.{refl, sym, [], ◌^◌, true}
-use Rattle.cx_codec.proofs.Composing.{fails, goes, gives}
-use Rattle.cx_codec.proofs.Following.{follows_none, follows_on}
-use Rattle.cx_top.specs.Opening.{begun_at}
-use Rattle.cx_top.proofs.Composed.{behind_magic_at, filled_at, begun_parts}
+use Rattle.std.proofs.Common.{refl, [], ◌^◌, true}
+use Rattle.cx_codec.proofs.Composing.{breaks, fails, goes}
+use Rattle.cx_codec.proofs.Following.{follows_none}
+use Rattle.cx_top.specs.Opening.{begun_at, behind_kind}
+use Rattle.cx_top.proofs.Composed.{begun_parts}
 use Rattle.cx_top.proofs.Refusals.{refused_unread}
 use Rattle.cx_top.proofs.open.open.Goals as goal
 
@@ -16,67 +16,32 @@ returns-in_err-bytes-clause-opens g c told =
       keeps = tt;
     })
 
-pub returns-in_err-read_magic-clause-opens : goal.returns-in_err-read_magic-clause-opens
-returns-in_err-read_magic-clause-opens g c told =
-    let p = err_from_is_err_and c.from_residual-in_err-read_magic.result c.from_residual-in_err-read_magic.ensures.1 in
-    let magic = rw c.in_ok-bytes.ensures at (c.in_err-read_magic.ensures.reads told) in
+pub returns-in_err-magic-clause-opens : goal.returns-in_err-magic-clause-opens
+returns-in_err-magic-clause-opens g c told =
+    let p = err_from_is_err_and c.from_residual-in_err-magic.result c.from_residual-in_err-magic.ensures.1 in
+    let magic = rw c.in_ok-bytes.ensures at (c.in_err-magic.ensures.reads told) in
     rw (p.1, p.2) (record {
       behind = c.read_magic.new.bytes;
-      reads = fails {reader = begun_at} (λ start begun. behind_magic_at) begun_parts refl magic;
+      reads = fails {reader = begun_at} behind_kind begun_parts refl magic;
       keeps = tt;
     })
 
-pub returns-in_err-reader-clause-opens : goal.returns-in_err-reader-clause-opens
-returns-in_err-reader-clause-opens g c told =
-    let p = err_from_is_err_and c.from_residual-in_err-reader.result c.from_residual-in_err-reader.ensures.1 in
-    let magic = rw c.in_ok-bytes.ensures at (c.in_ok-read_magic.ensures.reads told) in
-    let opened = c.in_err-reader.ensures.opens magic.follows.told in
-    rw (p.1, p.2) (record {
-      behind = opened.behind;
-      reads = goes {reader = begun_at} (λ start begun. behind_magic_at) begun_parts magic
-          (fails (λ start. filled_at) (λ p. refl) refl opened.reads);
-      keeps = tt;
-    })
-
-pub returns-in_err-machine-clause-opens : goal.returns-in_err-machine-clause-opens
-returns-in_err-machine-clause-opens g c told =
-    let p = err_from_is_err_and c.from_residual-in_err-machine.result c.from_residual-in_err-machine.ensures.1 in
-    let magic = rw c.in_ok-bytes.ensures at (c.in_ok-read_magic.ensures.reads told) in
-    let opened = c.in_ok-reader.ensures.opens magic.follows.told in
-    rw (p.1, p.2) (record {
-      behind = opened.behind;
-      reads = refused_unread (follows_on magic.follows opened.reads.follows) refl;
-      keeps = tt;
-    })
-
-pub returns-in_err-fill-clause-opens : goal.returns-in_err-fill-clause-opens
-returns-in_err-fill-clause-opens g c told =
-    let p = err_from_is_err_and c.from_residual-in_err-fill.result c.from_residual-in_err-fill.ensures.1 in
-    let magic = rw c.in_ok-bytes.ensures at (c.in_ok-read_magic.ensures.reads told) in
-    let opened = c.in_ok-reader.ensures.opens magic.follows.told in
-    let header = rw (sym opened.keeps) at opened.reads in
-    let at_first = c.in_ok-reader.ensures.opened in
-    let pages = rw (at_first.left, at_first.least, c.in_ok-machine.ensures.memory, c.header.ensures.header)
-    at (c.in_err-fill.ensures.reads header.follows.told) in
-    rw (p.1, p.2) (record {
-      behind = c.fill.new.reader.input;
-      reads = goes {reader = begun_at} (λ start begun. behind_magic_at) begun_parts magic
-          (goes (λ start. filled_at) (λ p. refl) header (fails _ (λ p. refl) refl pages));
-      keeps = tt;
-    })
-
-pub returns-clause-opens : goal.returns-clause-opens
-returns-clause-opens g c told =
-    let magic = rw c.in_ok-bytes.ensures at (c.in_ok-read_magic.ensures.reads told) in
-    let opened = c.in_ok-reader.ensures.opens magic.follows.told in
-    let header = rw (sym opened.keeps) at opened.reads in
-    let at_first = c.in_ok-reader.ensures.opened in
-    let pages = rw (at_first.left, at_first.least, c.in_ok-machine.ensures.memory, c.header.ensures.header)
-    at (c.in_ok-fill.ensures.reads header.follows.told) in
+pub returns-in-Recording-clause-opens : goal.returns-in-Recording-clause-opens
+returns-in-Recording-clause-opens g c told =
+    let magic = rw (c.in_ok-bytes.ensures, c.in-Recording.is) at (c.in_ok-magic.ensures.reads told) in
+    let opened = c.open_behind.ensures.opens magic.follows.told in
     record {
-      behind = c.fill.new.reader.input;
-      reads = goes {reader = begun_at} (λ start begun. behind_magic_at) begun_parts magic
-          (goes (λ start. filled_at) (λ p. refl) header
-          (goes _ (λ p. refl) pages (gives pages.follows.told (λ p. rw c.in_ok-fill.ensures.header refl))));
-      keeps = refl;
+      behind = opened.behind;
+      reads = goes {reader = begun_at} behind_kind begun_parts magic opened.reads;
+      keeps = opened.keeps;
+    }
+
+pub returns-in-Slice-clause-opens : goal.returns-in-Slice-clause-opens
+returns-in-Slice-clause-opens g c told =
+    let magic = rw (c.in_ok-bytes.ensures, c.in-Slice.is) at (c.in_ok-magic.ensures.reads told) in
+    record {
+      behind = c.read_magic.new.bytes;
+      reads = goes {reader = begun_at} behind_kind begun_parts magic
+          (breaks 0 magic.follows.told refl (λ p. refl));
+      keeps = tt;
     }

@@ -27,7 +27,7 @@ returns-in-Some-clause-reads g c told input bytes begins are begun =
     let cuts = c.in_ok-window.ensures.cuts told input begins _ o _ (sym c.header.ensures.header)
     (is_judged bytes o _ are begun) stands in
     let some = rw c.in-Some.is at cuts in
-    λ h. has_slice c.args.span.from c.args.span.to bytes o _ c.in-Some.slice are begun (some h)
+    λ h. has_slice c.args.span.from c.args.span.to bytes o _ c.in-Some.slice begun (some h)
 
 pub returns-in-None-clause-reads : goal.returns-in-None-clause-reads
 returns-in-None-clause-reads g c told input bytes begins are begun =
@@ -38,7 +38,7 @@ returns-in-None-clause-reads g c told input bytes begins are begun =
     let cuts = c.in_ok-window.ensures.cuts told input begins _ o _ (sym c.header.ensures.header)
     (is_judged bytes o _ are begun) stands in
     let none = rw c.in-None.is at cuts in
-    λ h. lacks_window c.args.span.from c.args.span.to bytes o _ are begun (none h)
+    λ h. lacks_window c.args.span.from c.args.span.to bytes o _ begun (none h)
 
 pub returns-in_err-window-clause-consumes : goal.returns-in_err-window-clause-consumes
 returns-in_err-window-clause-consumes g c told =

@@ -6,7 +6,7 @@ use Rattle.cx_codec.specs.Reads.{over, place_in}
 use Rattle.cx_log.specs.Reading.{start_of}
 use Rattle.cx_top.specs.Call.{input_behind}
 use Rattle.cx_top.specs.Opening.{begun_at}
-use Rattle.cx_top.proofs.Answering.{refused_opening}
+use Rattle.cx_top.proofs.Answering.{refused_window}
 use Rattle.cx_top.proofs.Consuming.{consumes_on, consumes_some, gave_of_follows, log_fault_is_early}
 use Rattle.cx_top.proofs.window.read_slice.Goals as goal
 
@@ -25,7 +25,7 @@ returns-clause-consumes g c told =
 pub returns-in_err-opening-clause-reads : goal.returns-in_err-opening-clause-reads
 returns-in_err-opening-clause-reads g c told input begins are =
     let p = err_from_is_err_and c.from_residual.result c.from_residual.ensures.1 in
-    rw (p.1, p.2) (refused_opening c.args.span.from c.args.span.to _ _ _ c.in_err-opening.field-0.0
+    rw (p.1, p.2) (refused_window c.args.span.from c.args.span.to _ _ _ c.in_err-opening.field-0.0
     ((c.in_err-opening.ensures.opens told).reads.reads input begins))
 
 pub returns-clause-reads : goal.returns-clause-reads

@@ -27,8 +27,9 @@ loop-going-preserved g c =
           ok.turned here input begins end o whole shown.0 shown.1.0 shown.1.1;
       spent = λ told. ok.spent (before.follows told).told;
       same = same_on _ _ _ before.same ok.same;
-      pages = before.pages ∙ ok.fit.0;
-      fit = λ fit. rw before.pages (ok.fit.1 (rw before.pages at (before.fit fit)));
+      pages = before.pages ∙ ok.pages;
+      fit = λ fit. rw before.pages (ok.fit (rw before.pages at (before.fit fit)));
+      split = ok.split ∙ before.split;
       live = ok.live;
       later = omega (arith, ok.cause.later, before.later);
       small = λ small. ok.cause.fits (before.small small);

@@ -23,15 +23,17 @@ invariant-loop-going g l =
           → (end : ℕ) (o : Opened) (whole : Scan)
           → Stands o whole [] l.fn.replay.machine l.fn.replay.progress (seen l.fn.replay.records).bytes
           (has l.fn.replay.records (given l.fn.source) input end)
-          → Slices (decoded o whole) [] l.fn.slicer
-          → IsShown o whole l.replay.progress.at l.slicer
+          → Slices (decoded o whole) l.fn.replay.machine.saved [] l.fn.slicer
+          → IsShown o whole l.replay.progress.at l.replay.machine.saved l.slicer
           (λ now. Stands o whole now l.replay.machine l.replay.progress (seen l.replay.records).bytes
           (has l.replay.records (given l.source) input end)) (MayBeWhole (left l.source) (given l.source) input)
           l.going;
       spent : IsSome (left l.fn.source) → OnFalse l.going (g.R.Records.leaves (left l.source));
       same : SameWindow l.fn.slicer l.slicer;
       pages : (seen l.fn.replay.records).pages ≡ (seen l.replay.records).pages;
-      fit : IsFit (seen l.fn.replay.records).pages l.fn.slicer → IsFit (seen l.fn.replay.records).pages l.slicer;
+      fit : IsFit (seen l.fn.replay.records).pages l.fn.replay.machine.saved l.fn.slicer
+          → IsFit (seen l.fn.replay.records).pages l.replay.machine.saved l.slicer;
+      split : l.replay.machine.split ≡ l.fn.replay.machine.split;
       live : IsTrue l.replay.live;
       later : faults l.fn.source ≤ faults l.source;
       small : faults l.fn.source < 2 ^ 64 → faults l.source < 2 ^ 64;

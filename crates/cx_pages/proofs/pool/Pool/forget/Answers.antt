@@ -59,8 +59,9 @@ returns-clause-others c = λ other apart.
 
 pub returns-clause-counts : goal.returns-clause-counts
 returns-clause-counts c =
-    subst (λ (m : Memories). GivesBack m (memories_of c.self.inside.frames c.release_all.new.self c.self.inside.current
-    (set c.self.inside.tables.items c.snap.inside.number c.empty.result))) c.self.view_is
+    subst (λ (m : Memories). GivesBack m.used m.spare (memories_of c.self.inside.frames c.release_all.new.self
+    c.self.inside.current (set c.self.inside.tables.items c.snap.inside.number c.empty.result)).used
+    c.release_all.new.self.spare) c.self.view_is
     (gives_back _ _ _ _ _ _ _ c.self.invariant (invariant_of-self c) c.release_all.ensures.length
     c.release_all.ensures.spare)
 

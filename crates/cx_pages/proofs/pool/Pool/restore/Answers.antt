@@ -57,8 +57,8 @@ invariant_of-self c =
 
 pub returns-clause-counts : goal.returns-clause-counts
 returns-clause-counts c =
-    subst (λ (m : Memories). GivesBack m (memories_of c.self.inside.frames c.release_all.new.self c.copy_from.new.self
-    c.self.inside.tables.items)) c.self.view_is
+    subst (λ (m : Memories). GivesBack m.used m.spare (memories_of c.self.inside.frames c.release_all.new.self
+    c.copy_from.new.self c.self.inside.tables.items).used c.release_all.new.self.spare) c.self.view_is
     (gives_back _ _ _ _ _ _ _ c.self.invariant (invariant_of-self c) (c.release_all.ensures.length
     ∙ c.add_all.ensures.length)
     (omega (arith, c.release_all.ensures.spare, c.add_all.ensures.spare)))

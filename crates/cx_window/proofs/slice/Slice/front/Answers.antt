@@ -4,7 +4,7 @@ use Rattle.cx_window.proofs.slice.Slice.front.Goals as goal
 
 pub returns : goal.returns
 returns c =
-    let whole = c.self.invariant in
+    let whole = c.self.invariant.0 in
     record {
       header = rw (c.count.ensures.count, ← c.self.view_is) refl;
       rules = record {

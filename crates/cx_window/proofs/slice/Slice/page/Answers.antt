@@ -1,8 +1,11 @@
-use Rattle.std.proofs.Common.{◌≡◌, ◌+◌, ◌-◌, ◌*◌, refl, arith}
-use Rattle.cx_map.specs.declared.TheConstants.{PAGE_SIZE}
+use Rattle.std.proofs.Common.{ap, ◌∙◌}
+use Rattle.cx_ram.specs.PhysicalMemory.{page_of}
+use Rattle.cx_window.specs.Slice.{Sliced}
+use Rattle.cx_window.proofs.WindowOf.{page_at}
 use Rattle.cx_window.proofs.slice.Slice.page.Goals as goal
 
 pub returns : goal.returns
 returns c =
-    let len : c.args.page * PAGE_SIZE + PAGE_SIZE - c.args.page * PAGE_SIZE ≡ PAGE_SIZE = omega arith in
-    rw (← c.self.view_is, c.in-Some.ensures.cases.same, len, c.deref.ensures.value) refl
+    page_at c.self.inside.machine.saved c.self.inside.moment c.args.page c.moment_page.result.now
+    c.self.invariant.1.live
+    c.moment_page.ensures ∙ ap (λ (s : Sliced). page_of s.memory c.args.page) c.self.view_is

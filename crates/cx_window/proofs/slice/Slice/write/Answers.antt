@@ -7,10 +7,10 @@ use Rattle.cx_codec.proofs.Putting.{finishes_fails, finishes_on, puts_fails, put
 use Rattle.cx_log.specs.Order.{at_start}
 use Rattle.cx_log.specs.Text.{end_text, pages_text}
 use Rattle.cx_log.specs.declared.order.Behind.{Behind}
-use Rattle.cx_window.specs.Events.{behind_all, events_text}
+use Rattle.cx_replay.specs.Events.{behind_all, events_text}
 use Rattle.cx_window.specs.Slice.{IsWhole, Sliced, written_of}
 use Rattle.cx_window.proofs.Kept.{text_of_slice}
-use Rattle.cx_window.proofs.KeptEvents.{order_last}
+use Rattle.cx_replay.proofs.EventsKept.{order_last}
 use Rattle.cx_window.proofs.slice.Slice.write.Goals as goal
 
 pub returns-in_err-writer-clause-refused : goal.returns-in_err-writer-clause-refused
@@ -56,7 +56,7 @@ pub end-requires-clause-rules : goal.end-requires-clause-rules
 end-requires-clause-rules g c =
     let s = c.args.self.now in
     let b = at_start s.header.base s.header.start in
-    let whole = subst IsWhole c.self.view_is c.self.invariant in
+    let whole = subst IsWhole c.self.view_is c.self.invariant.0 in
     let from = c.in_ok-put_pages.ensures.behind ∙ c.in_ok-writer.ensures.started.behind
     ∙ ap (λ h. at_start h.base h.start) c.front.ensures.header in
     let last = c.in_ok-put.ensures.behind ∙ ap (λ (e : Behind). behind_all e c.self.inside.events) from

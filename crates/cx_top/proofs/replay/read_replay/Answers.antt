@@ -1,0 +1,40 @@
+use Rattle.std.proofs.Common.{◌≡◌}
+use Rattle.std.proofs.lemmas.Result.{err_from_is_err_and}
+use Rattle.cx_codec.proofs.Following.{begins_on, end_stays}
+use Rattle.cx_replay.proofs.Giving.{gave_on}
+use Rattle.cx_replay.specs.Records.{MayBeWhole}
+use Rattle.cx_top.specs.Call.{input_behind}
+use Rattle.cx_top.proofs.Consuming.{gave_of_follows}
+use Rattle.cx_top.proofs.Replayed.{behind_recording, refuses_magic, refuses_slice, replays_recording}
+use Rattle.cx_top.proofs.replay.read_replay.Goals as goal
+
+pub returns-in_err-magic-clause-does : goal.returns-in_err-magic-clause-does
+returns-in_err-magic-clause-does g c told input begins are =
+    let p = err_from_is_err_and c.from_residual-in_err-magic.result c.from_residual-in_err-magic.ensures.1 in
+    let magic = rw c.in_ok-bytes.ensures at (c.in_err-magic.ensures.reads told) in
+    rw (p.1, p.2) (refuses_magic _ _ _ _ c.in_err-magic.field-0.0 (magic.reads input begins))
+
+pub returns-in-Recording-clause-follows : goal.returns-in-Recording-clause-follows
+returns-in-Recording-clause-follows g c told =
+    let magic = c.in_ok-magic.ensures.reads told in
+    gave_on (gave_of_follows magic.follows) (c.replay_recording.ensures.follows magic.follows.told)
+
+pub returns-in-Recording-clause-does : goal.returns-in-Recording-clause-does
+returns-in-Recording-clause-does g c told input begins are =
+    let magic = rw (c.in_ok-bytes.ensures, c.in-Recording.is) at (c.in_ok-magic.ensures.reads told) in
+    let first = begins_on (c.replay_recording.ensures.follows magic.follows.told).grows begins in
+    let kind = magic.reads input first in
+    let left = g.S.Source.left c.replay_recording.new.source in
+    let given = g.S.Source.given c.replay_recording.new.source in
+    replays_recording (input_behind (g.S.Source.given c.args.source.now) input) _ (MayBeWhole left given input)
+    (input ≡ given) (g.T.Sink.held c.args.sink.now) (g.T.Sink.held c.replay_recording.new.sink)
+    c.replay_recording.result kind (c.replay_recording.ensures.does magic.follows.told input _ begins are
+    (behind_recording _ _ kind) (end_stays magic.follows input first))
+
+pub returns-in-Slice-clause-follows : goal.returns-in-Slice-clause-follows
+returns-in-Slice-clause-follows g c told = gave_of_follows (c.in_ok-magic.ensures.reads told).follows
+
+pub returns-in-Slice-clause-does : goal.returns-in-Slice-clause-does
+returns-in-Slice-clause-does g c told input begins are =
+    let magic = rw (c.in_ok-bytes.ensures, c.in-Slice.is) at (c.in_ok-magic.ensures.reads told) in
+    refuses_slice _ _ (Unit {0}) (Unit {0}) (g.T.Sink.held c.args.sink.now) (magic.reads input begins)

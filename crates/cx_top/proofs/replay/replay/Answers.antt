@@ -1,0 +1,4 @@
+use Rattle.cx_top.proofs.replay.replay.Goals as goal
+
+pub returns-in-Err-clause-answer : goal.returns-in-Err-clause-answer
+returns-in-Err-clause-answer g c told input begins are = (c.in-Err.ensures.does told input begins are).0

@@ -1,0 +1,67 @@
+//! The lines of steps.
+
+use crate::telling::Teller;
+use cx_codec::{Out, OutFault};
+use cx_hart::{Machine, StepRec};
+use cx_io::Sink;
+use cx_log::Header;
+use cx_print::step_line;
+use cx_replay::DueRecords;
+use std::alloc::Global;
+use std::marker::Model;
+
+/// Puts a line for each step.
+#[derive(Drop)]
+pub(crate) struct Lines {
+    out: Out,
+}
+
+impl Model for Lines {
+    ghost use Rattle.cx_codec.specs.Blocks.{Waiting};
+
+    ghost Value = { Waiting };
+
+    ghost view = { λ l. l.out };
+}
+
+impl Teller for Lines {
+    ghost use Rattle.cx_top.specs.Streaming.{settled_by};
+    ghost use Rattle.cx_top.specs.Growing.{lines_grow};
+    ghost use Rattle.cx_top.specs.Trace.{line_text};
+
+    ghost text = { line_text };
+
+    ghost full = { settled_by line_text };
+
+    ghost waiting = { λ l. l.bytes };
+
+    ghost keeps = { λ l o whole given. Unit {0} };
+
+    ghost ready = { λ l. l.live };
+
+    ghost grows = { lines_grow };
+
+    fn start<T: Sink>(
+        alloc: Global,
+        _header: &Header,
+        _machine: &Machine,
+        _sink: &mut T,
+    ) -> Result<Lines, OutFault> {
+        let out = Out::new(alloc)?;
+        Ok(Lines { out })
+    }
+
+    fn tell<T: Sink>(
+        &mut self,
+        step: u64,
+        rec: &StepRec,
+        _due: &DueRecords,
+        sink: &mut T,
+    ) -> Result<(), OutFault> {
+        step_line(&mut self.out, step, rec, sink)
+    }
+
+    fn finish<T: Sink>(self, _end: u64, sink: &mut T) -> Result<(), OutFault> {
+        self.out.finish(sink)
+    }
+}
