@@ -1,8 +1,10 @@
 -- What `window` makes of an input, and what it writes of it.
-use Rattle.std.proofs.Common.{◌≡◌, ℕ, ◌-◌, ◌≤◌, nat_le, nat_lt, ◌&&◌, Bool, true, false, List, [], length, take, drop}
+use Rattle.std.proofs.Common.{◌≡◌, ℕ, ◌-◌, ◌<◌, ◌≤◌, nat_le, nat_lt, ◌&&◌, Bool, true, false, List, [], length, take}
+use Rattle.std.proofs.Common.{drop}
 use Rattle.std.proofs.Common.{Option, None, Some, IsSomeAnd, Result, Ok, Err, inl, inr, arith, refl, ap, sym}
 use Rattle.std.proofs.Common.{subst, ◌∙◌}
 use Rattle.std.proofs.lemmas.Bool.{le-leb, leb-true, lt-ltb, ltb-true}
+use Rattle.std.specs.Io.KnownBytes.{Appends}
 use Rattle.cx_codec.specs.Blocks.{HasFront}
 use Rattle.cx_codec.specs.declared.fault.OutFault.{OutFault}
 use Rattle.cx_codec.specs.declared.fault.OutFault.TheVariants.{WriteFault as write_fault, NoMemory as no_room}
@@ -19,24 +21,25 @@ use Rattle.cx_log.specs.Fault.{log_met}
 use Rattle.cx_log.specs.declared.fault.LogFault.{LogFault}
 use Rattle.cx_log.specs.Reading.{Opened, opened_at, start_of}
 use Rattle.cx_log.specs.Recording.{Recording}
-use Rattle.cx_log.specs.Scan.{Scan, begin_records, decoded}
+use Rattle.cx_log.specs.Scan.{Scan, decoded}
 use Rattle.cx_log.specs.Text.{recording_text}
 use Rattle.cx_map.specs.Bytes.{AreBytes}
 use Rattle.cx_replay.specs.declared.fault.ReplayFault.{ReplayFault}
 use Rattle.cx_replay.specs.declared.fault.ReplayFault.TheVariants as replay
-use Rattle.cx_run.specs.FirstBad.{Refusal, bad_behind, bad_in, first_bad}
+use Rattle.cx_run.specs.FirstBad.{Refusal, bad_behind, first_bad}
 use Rattle.cx_run.specs.Run.{Accepts, Run, run_of}
 use Rattle.cx_run.specs.Window.{IsWindow, has_window}
 use Rattle.cx_run.proofs.Accepted.{window_is_accepted}
 use Rattle.cx_run.proofs.Alone.{window_records}
 use Rattle.cx_run.proofs.Runs.{some_run}
 use Rattle.cx_run.proofs.Windows.{window_is_there}
-use Rattle.cx_window.specs.Cut.{CutsOff, HasNone, StopsFor}
+use Rattle.cx_window.specs.Cut.{HasNone, StopsFor}
 use Rattle.cx_window.specs.Slice.{Sliced, written_of}
 use Rattle.cx_top.specs.Doing.{Answers, Does, IsGoodSoFar, Leaves, judged, text_in, text_of, there_of}
 use Rattle.cx_top.specs.Faults.{status_of_log, status_of_out, status_of_replay}
 use Rattle.cx_top.specs.Opening.{begun_at, scan_from}
-use Rattle.cx_top.specs.Window.{IsCut, IsReadRefusal, IsTextOf, WindowOf, no_text, text_between, window_text, windowed}
+use Rattle.cx_top.specs.Window.{IsCut, IsReadRefusal, IsTextOf, WindowOf, no_text, of_window, text_between}
+use Rattle.cx_top.specs.Window.{window_text, windowed}
 use Rattle.cx_top.specs.declared.status.Status.{Status}
 use Rattle.cx_top.specs.declared.status.Status.TheVariants as status
 use Rattle.cx_top.proofs.Doings.{no_front, refusal_behind, refused_opening, text_behind}
@@ -44,17 +47,18 @@ use Rattle.cx_top.proofs.Judging.{end_begun, good_is_begun, text_of_begun}
 
 -- ---- the answer, by the first bad place behind header and pages
 
-answer_of : (a b : ℕ) (bytes : List ℕ) (o : Opened) (p : Place) → begun_at (start_of bytes) ≡ Ok (o, p)
-    → (windowed a b).refusal bytes
+answer_of : (full : Opened → Scan → List ℕ) (a b : ℕ) (bytes : List ℕ) (o : Opened) (p : Place)
+    → begun_at (start_of bytes) ≡ Ok (o, p)
+    → (of_window full a b).refusal bytes
     ≡ judged (bad_behind hart_step o (scan_from o p)) (has_window (decoded o (scan_from o p)) a b)
-answer_of a b bytes o p begun = refusal_behind (λ o s. has_window (decoded o s) a b) bytes o p begun
+answer_of full a b bytes o p begun = refusal_behind (λ o s. has_window (decoded o s) a b) bytes o p begun
 
 -- an input that is bad before its records
-pub refused_window : (a b : ℕ) (bytes : List ℕ) (may cut : Type 0) (e : LogFault)
+pub refused_window : (full : Opened → Scan → List ℕ) (a b : ℕ) (bytes : List ℕ) (may cut : Type 0) (e : LogFault)
     → MeetsIn (log_met e) (begun_at (start_of bytes)) (end_of (start_of bytes)) may cut
-    → Answers (windowed a b) bytes may cut (status_of_log e)
-refused_window a b bytes may cut e meets =
-    (refused_opening false (λ o s. has_window (decoded o s) a b) (window_text a b) no_text bytes may cut None e
+    → Answers (of_window full a b) bytes may cut (status_of_log e)
+refused_window full a b bytes may cut e meets =
+    (refused_opening false (λ o s. has_window (decoded o s) a b) full no_text bytes may cut None e
     meets).0
 
 -- nothing is settled of it before all was judged
@@ -66,40 +70,45 @@ nothing_settled bytes = by_opening (opened_at (start_of bytes))
     by_opening (Ok x) = refl
     by_opening (Err o) = refl
 
-pub nothing_written : (a b : ℕ) (bytes : List ℕ) (may cut : Type 0) (base : Option (List ℕ)) (s : Status)
-    → IsReadRefusal s → Leaves (windowed a b) bytes may cut s base base
-nothing_written a b bytes may cut base (status.Format o) is = λ h. rw (nothing_settled bytes) (nothing_put base).written
-nothing_written a b bytes may cut base (status.Broken n) is = rw (nothing_settled bytes) (nothing_put base).written
-nothing_written a b bytes may cut base status.ReadFault is = λ h. rw (nothing_settled bytes) (nothing_put base).written
-nothing_written a b bytes may cut base status.NotThere is = refl
-nothing_written a b bytes may cut base status.NoMemory is = inl (no_front base _)
-nothing_written a b bytes may cut base status.Done is = absurd is
-nothing_written a b bytes may cut base status.WriteFault is = absurd is
-nothing_written a b bytes may cut base status.Usage is = absurd is
-nothing_written a b bytes may cut base status.WorldFault is = absurd is
-nothing_written a b bytes may cut base (status.NotBuilt n) is = absurd is
+pub nothing_written : (full : Opened → Scan → List ℕ) (a b : ℕ) (bytes : List ℕ) (may cut : Type 0)
+    (base : Option (List ℕ)) (s : Status)
+    → IsReadRefusal s → Leaves (of_window full a b) bytes may cut s base base
+nothing_written full a b bytes may cut base (status.Format o) is = λ h.
+    rw (nothing_settled bytes) (nothing_put base).written
+nothing_written full a b bytes may cut base (status.Broken n) is = rw (nothing_settled bytes) (nothing_put base).written
+nothing_written full a b bytes may cut base status.ReadFault is = λ h.
+    rw (nothing_settled bytes) (nothing_put base).written
+nothing_written full a b bytes may cut base status.NotThere is = refl
+nothing_written full a b bytes may cut base status.NoMemory is = inl (no_front base _)
+nothing_written full a b bytes may cut base status.Done is = absurd is
+nothing_written full a b bytes may cut base status.WriteFault is = absurd is
+nothing_written full a b bytes may cut base status.Usage is = absurd is
+nothing_written full a b bytes may cut base status.WorldFault is = absurd is
+nothing_written full a b bytes may cut base (status.NotBuilt n) is = absurd is
 
 good_so_far : (n : ℕ) (there : Bool) → IsGoodSoFar n (judged None there)
 good_so_far n true = tt
 good_so_far n false = tt
 
-pub refused_replay : (a b : ℕ) (bytes : List ℕ) (may cut : Type 0) (o : Opened) (p : Place) (e : ReplayFault)
+pub refused_replay : (full : Opened → Scan → List ℕ) (a b : ℕ) (bytes : List ℕ) (may cut : Type 0) (o : Opened)
+    (p : Place) (e : ReplayFault)
     → AreBytes bytes → begun_at (start_of bytes) ≡ Ok (o, p) → StopsFor o (scan_from o p) (end_of p) may cut e
-    → Answers (windowed a b) bytes may cut (status_of_replay e)
-refused_replay a b bytes may cut o p (replay.Format f) are begun stops = λ h.
-    (answer_of a b bytes o p begun ∙ rw (stops h) refl)
-refused_replay a b bytes may cut o p (replay.Broken n) are begun stops =
-    answer_of a b bytes o p begun ∙ rw stops refl
-refused_replay a b bytes may cut o p replay.ReadFault are begun stops = λ h. elim (stops h) [
-  | inl none ↦ rw (answer_of a b bytes o p begun, none)
+    → Answers (of_window full a b) bytes may cut (status_of_replay e)
+refused_replay full a b bytes may cut o p (replay.Format f) are begun stops = λ h.
+    (answer_of full a b bytes o p begun ∙ rw (stops h) refl)
+refused_replay full a b bytes may cut o p (replay.Broken n) are begun stops =
+    answer_of full a b bytes o p begun ∙ rw stops refl
+refused_replay full a b bytes may cut o p replay.ReadFault are begun stops = λ h. elim (stops h) [
+  | inl none ↦ rw (answer_of full a b bytes o p begun, none)
       (good_so_far (length bytes) (has_window (decoded o (scan_from o p)) a b))
-  | inr end ↦ rw (answer_of a b bytes o p begun, end) (end_begun bytes o p are begun)
+  | inr end ↦ rw (answer_of full a b bytes o p begun, end) (end_begun bytes o p are begun)
 ]
-refused_replay a b bytes may cut o p replay.NoMemory are begun stops = tt
+refused_replay full a b bytes may cut o p replay.NoMemory are begun stops = tt
 
-pub lacks_window : (a b : ℕ) (bytes : List ℕ) (o : Opened) (p : Place) → begun_at (start_of bytes) ≡ Ok (o, p)
-    → HasNone o (scan_from o p) a b → (windowed a b).refusal bytes ≡ Some status.NotThere
-lacks_window a b bytes o p begun none = answer_of a b bytes o p begun ∙ rw (none.good, none.lacks) refl
+pub lacks_window : (full : Opened → Scan → List ℕ) (a b : ℕ) (bytes : List ℕ) (o : Opened) (p : Place)
+    → begun_at (start_of bytes) ≡ Ok (o, p)
+    → HasNone o (scan_from o p) a b → (of_window full a b).refusal bytes ≡ Some status.NotThere
+lacks_window full a b bytes o p begun none = answer_of full a b bytes o p begun ∙ rw (none.good, none.lacks) refl
 
 -- ---- a window that is there
 
@@ -114,26 +123,53 @@ window_spelled o s a b W window =
     (run_of (hart_step o.header.split) (decoded o s) (b - o.header.base))) window.up_to_a
     ∙ ap (text_between (decoded o s) a b (Some window.before)) window.up_to_b ∙ ap recording_text (sym window.is)
 
-pub has_slice : (a b : ℕ) (bytes : List ℕ) (o : Opened) (p : Place) (s : Sliced)
-    → begun_at (start_of bytes) ≡ Ok (o, p) → CutsOff o (scan_from o p) a b s → IsCut (windowed a b) bytes s
-has_slice a b bytes o p s begun cuts = record {
-  good = answer_of a b bytes o p begun
-      ∙ rw (cuts.good, window_lies (decoded o (scan_from o p)) (written_of s) a b cuts.window) refl;
-  text = text_behind (window_text a b) bytes o p begun
-      ∙ window_spelled o (scan_from o p) a b (written_of s) cuts.window;
+-- what a command writes of a slice of an input
+pub record HasText (full : Opened → Scan → List ℕ) (a b : ℕ) (bytes text : List ℕ) : Type 0 where
+  pub good : (of_window full a b).refusal bytes ≡ None
+  pub is : (of_window full a b).full bytes ≡ text
+
+pub has_text : (full : Opened → Scan → List ℕ) (a b : ℕ) (bytes : List ℕ) (s : Sliced) → (cut : IsCut a b bytes s)
+    → HasText full a b bytes (full cut.opened (scan_from cut.opened cut.place))
+has_text full a b bytes s cut = record {
+  good = answer_of full a b bytes cut.opened cut.place cut.begun
+      ∙ rw (
+        cut.cuts.good,
+        window_lies (decoded cut.opened (scan_from cut.opened cut.place)) (written_of s) a b
+            cut.cuts.window,
+      ) refl;
+  is = text_behind full bytes cut.opened cut.place cut.begun;
 }
 
-pub writes_out : (a b : ℕ) (bytes : List ℕ) (may cut : Type 0) (base held : Option (List ℕ)) (s : Sliced) (e : OutFault)
-    → (may → IsCut (windowed a b) bytes s) → HasFront base (recording_text (written_of s)) held
-    → Does (windowed a b) bytes may cut base held (Err (status_of_out e))
-writes_out a b bytes may cut base held s e cut_off front = by_fault e
-  where
-    all : may → ((windowed a b).refusal bytes ≡ None) × HasFront base ((windowed a b).full bytes) held
-    all h = ((cut_off h).good, rw (cut_off h).text front)
+-- `window` writes the recording of the slice
+pub slice_text : (a b : ℕ) (bytes : List ℕ) (s : Sliced) → (cut : IsCut a b bytes s)
+    → window_text a b cut.opened (scan_from cut.opened cut.place) ≡ recording_text (written_of s)
+slice_text a b bytes s cut =
+    window_spelled cut.opened (scan_from cut.opened cut.place) a b (written_of s) cut.cuts.window
 
-    by_fault : (f : OutFault) → Does (windowed a b) bytes may cut base held (Err (status_of_out f))
-    by_fault write_fault = (λ early h. (cut_off h).good, inr all)
+pub writes_out : (full : Opened → Scan → List ℕ) (a b : ℕ) (bytes : List ℕ) (may cut : Type 0)
+    (base held : Option (List ℕ)) (s : Sliced) (e : OutFault) → (may → IsCut a b bytes s)
+    → ((c : IsCut a b bytes s) → HasFront base (full c.opened (scan_from c.opened c.place)) held)
+    → Does (of_window full a b) bytes may cut base held (Err (status_of_out e))
+writes_out full a b bytes may cut base held s e cut_off front = by_fault e
+  where
+    good : may → (of_window full a b).refusal bytes ≡ None
+    good h = (has_text full a b bytes s (cut_off h)).good
+
+    all : may → ((of_window full a b).refusal bytes ≡ None) × HasFront base ((of_window full a b).full bytes) held
+    all h = (good h, rw (has_text full a b bytes s (cut_off h)).is (front (cut_off h)))
+
+    by_fault : (f : OutFault) → Does (of_window full a b) bytes may cut base held (Err (status_of_out f))
+    by_fault write_fault = (λ early h. good h, inr all)
     by_fault no_room = (tt, inr all)
+
+pub writes_all : (full : Opened → Scan → List ℕ) (a b : ℕ) (bytes : List ℕ) (may cut : Type 0)
+    (base held : Option (List ℕ)) (s : Sliced) → (may → IsCut a b bytes s)
+    → ((c : IsCut a b bytes s) → Appends base held (full c.opened (scan_from c.opened c.place)))
+    → Does (of_window full a b) bytes may cut base held (Ok (tt {0}))
+writes_all full a b bytes may cut base held s cut_off all = (
+  λ h. (has_text full a b bytes s (cut_off h)).good,
+  λ h. rw (has_text full a b bytes s (cut_off h)).is (all (cut_off h)),
+)
 
 -- ---- what is written
 
@@ -173,6 +209,11 @@ three true true false e = cc
 three true false c e = cc
 three false b c e = cc
 
+pub window_within : (R : Recording) (a b : ℕ) → has_window R a b ≡ true → (R.base ≤ a) × ((a < b) × (b ≤ R.end))
+window_within R a b lies =
+    let parts = three (nat_le R.base a) (nat_lt a b) (nat_le b R.end) lies in
+    (leb-true R.base a parts.0, (ltb-true a b parts.1.0, leb-true b R.end parts.1.1))
+
 abbrev pub Written : ℕ → ℕ → List ℕ → Type 0
 Written a b bytes = (W : Recording) × (WindowOf a b bytes W × ((windowed a b).full bytes ≡ recording_text W))
 
@@ -181,11 +222,11 @@ written_behind : (a b : ℕ) (bytes : List ℕ) (o : Opened) (p : Place) → Are
 written_behind a b bytes o p are begun good =
     let R : Recording = decoded o (scan_from o p) in
     let both = judged_good (bad_behind hart_step o (scan_from o p)) (has_window R a b)
-    (sym (answer_of a b bytes o p begun) ∙ good) in
-    let lies = three (nat_le R.base a) (nat_lt a b) (nat_le b R.end) both.1 in
+    (sym (answer_of (window_text a b) a b bytes o p begun) ∙ good) in
+    let within = window_within R a b both.1 in
     let is = text_of_begun bytes o p are begun both.0 in
-    let window = window_is_there (hart_step R.split) read_indices R a b is.accepted.unbroken (leb-true R.base a lies.0)
-    (ltb-true a b lies.1.0) (leb-true b R.end lies.1.1) in (
+    let window = window_is_there (hart_step R.split) read_indices R a b is.accepted.unbroken within.0 within.1.0
+    within.1.1 in (
       window.0,
       (
         window_of R window.0 a b bytes is window.1,

@@ -8,9 +8,11 @@ pub mod Ordered
 pub mod Streams
 pub mod Streamed
 pub mod LineTold
+pub mod LinesAgain
 pub mod Replayed
 pub mod Fronts
 pub mod Upgrading
 pub mod Answering
+pub mod LinesParts
 pub mod Upgraded
 pub mod Completeness

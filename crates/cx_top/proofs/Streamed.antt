@@ -93,7 +93,7 @@ run_is_all bytes o p given at may are begun run h =
 pub streams_done : (text : Opened → Scan → List StepRec → List ℕ) (full : Opened → Scan → List ℕ) (bytes : List ℕ)
     (may cut : Type 0) (o : Opened) (p : Place) (base held : Option (List ℕ)) (given : List StepRec) (at : ℕ)
     → begun_at (start_of bytes) ≡ Ok (o, p) → IsRun o (scan_from o p) given at may
-    → (may → FinishesOn base (full o (scan_from o p)) held (Ok (tt {0})))
+    → (may → FinishesOn {E = OutFault} base (full o (scan_from o p)) held (Ok (tt {0})))
     → Does (streamed text full) bytes may cut base held (Ok (tt {0}))
 streams_done text full bytes may cut o p base held given at begun run finishes = (
   λ h. answer_of bytes o p text full begun ∙ rw (run.good h) refl,

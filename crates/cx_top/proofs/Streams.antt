@@ -1,6 +1,7 @@
 -- The steps of a replay, told one by one.
 use Rattle.std.proofs.Common.{◌≡◌, ℕ, ◌+◌, ◌-◌, ◌*◌, ◌/◌, ◌≤◌, List, ◌++◌, length, Bool}
 use Rattle.std.proofs.Common.{Option, None, Some, Ok, Err, arith, refl, ap, sym, subst, ◌∙◌}
+use Rattle.std.specs.Io.KnownBytes.{Appends}
 use Rattle.cx_codec.specs.Blocks.{HasFront, StandsFor, whole as whole_blocks}
 use Rattle.cx_codec.specs.Reads.{Begins}
 use Rattle.cx_codec.specs.declared.fault.OutFault.{OutFault}
@@ -93,14 +94,18 @@ front_settled {o} {whole} {given} text base held grows stands front =
     let more = settled_begin stands in
     rw more.1 (front_of base held (text given) (text (given ++ more.0)) (grows given more.0) front)
 
+pub whole_front : (base held : Option (List ℕ)) (text : List ℕ) → Appends base held (whole_blocks text)
+    → HasFront base text held
+unfolding whole_blocks
+whole_front base held text written = record {
+  count = 4096 * (length text / 4096);
+  within = omega arith;
+  written = written;
+}
+
 pub blocks_front : (base held : Option (List ℕ)) (put waiting : List ℕ) → StandsFor base put waiting held
     → HasFront base put held
-unfolding whole_blocks
-blocks_front base held put waiting stands = record {
-  count = 4096 * (length put / 4096);
-  within = omega arith;
-  written = stands.written;
-}
+blocks_front base held put waiting stands = whole_front base held put stands.written
 
 -- ---- a step, a fault, the end
 

@@ -1,22 +1,20 @@
 -- What `upgrade` writes runs as its input does.
 use Rattle.std.proofs.Common.{◌≡◌, ℕ, zero, suc, ◌+◌, ◌-◌, List, Option, None, IsSome, true, inr, refl, ap, sym, subst}
 use Rattle.std.proofs.Common.{◌∙◌}
-use Rattle.cx_codec.specs.Place.{Place}
 use Rattle.cx_hart.specs.HartStep.{hart_step}
 use Rattle.cx_hart.specs.declared.record.StepRec.{StepRec}
 use Rattle.cx_log.specs.Order.{KeepsRules}
-use Rattle.cx_log.specs.Reading.{Opened, start_of}
 use Rattle.cx_log.specs.Recording.{Recording}
 use Rattle.cx_log.specs.Scan.{decoded}
 use Rattle.cx_log.specs.Text.{recording_text}
 use Rattle.cx_machine.specs.Step.{Step}
 use Rattle.cx_map.specs.Bytes.{AreBytes}
 use Rattle.cx_run.specs.Due.{due_at}
-use Rattle.cx_run.specs.FirstBad.{bad_behind, first_bad}
+use Rattle.cx_run.specs.FirstBad.{first_bad}
 use Rattle.cx_run.specs.Run.{Accepts, Run, next_run, run_of}
 use Rattle.cx_run.proofs.GoodInputs.{text_is_good}
 use Rattle.cx_top.specs.Doing.{there_of}
-use Rattle.cx_top.specs.Opening.{begun_at, scan_from}
+use Rattle.cx_top.specs.Opening.{scan_from}
 use Rattle.cx_top.specs.Upgrade.{IsUpgraded, upgrade_full, upgraded, upgrading}
 use Rattle.cx_top.specs.Window.{IsTextOf}
 use Rattle.cx_top.proofs.Answering.{judged_good}

@@ -20,7 +20,7 @@ use Rattle.cx_top.specs.Streaming.{IsOrdered}
 use Rattle.cx_top.specs.Upgrade.{first_events, front_text, start_of_records, upgrade_text}
 use Rattle.cx_top.specs.Trace.{line_text, lines_from}
 
-lines_on : (step : ℕ) (xs ys : List StepRec)
+pub lines_on : (step : ℕ) (xs ys : List StepRec)
     → lines_from step (xs ++ ys) ≡ lines_from step xs ++ lines_from (step + length xs) ys
 lines_on step [] ys = ap (λ (n : ℕ). lines_from n ys) (omega arith)
 lines_on step (rec ∷ xs) ys =

@@ -5,6 +5,7 @@ pub mod Doing
 pub mod Streaming
 pub mod Window
 pub mod Trace
+pub mod TraceWindow
 pub mod Upgrade
 pub mod Growing
 pub mod Call

@@ -76,7 +76,8 @@ abbrev pub TellsOn : Option (List ℕ) → (text waiting : List ℕ) → Option 
 TellsOn base text waiting held Keeps (Ok u) = Told base text waiting held Keeps
 TellsOn base text waiting held Keeps (Err e) = HasFront base text held
 
-abbrev pub FinishesOn : Option (List ℕ) → List ℕ → Option (List ℕ) → Result (Unit {0}) OutFault → Type 0
+-- all of a text was written, or a front of it
+abbrev pub FinishesOn : {E : Type 0} → Option (List ℕ) → List ℕ → Option (List ℕ) → Result (Unit {0}) E → Type 0
 FinishesOn base full held (Ok u) = Appends base held full
 FinishesOn base full held (Err e) = HasFront base full held
 

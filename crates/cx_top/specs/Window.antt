@@ -3,7 +3,8 @@ use Rattle.std.specs.Prelude.{◌≡◌, ℕ, ◌-◌, false, List, [], take, dr
 use Rattle.cx_hart.specs.HartStep.{hart_step}
 use Rattle.cx_hart.specs.Reads.{read_indices}
 use Rattle.cx_hart.specs.declared.record.StepRec.{StepRec}
-use Rattle.cx_log.specs.Reading.{Opened}
+use Rattle.cx_codec.specs.Place.{Place}
+use Rattle.cx_log.specs.Reading.{Opened, start_of}
 use Rattle.cx_log.specs.Recording.{Recording}
 use Rattle.cx_log.specs.Scan.{Scan, decoded}
 use Rattle.cx_log.specs.Text.{recording_text}
@@ -13,7 +14,9 @@ use Rattle.cx_run.specs.Window.{IsWindow, has_window, window_from}
 use Rattle.cx_top.specs.Doing.{Answers, Doing, Judges, of_recording}
 use Rattle.cx_top.specs.declared.status.Status.{Status}
 use Rattle.cx_top.specs.declared.status.Status.TheVariants as status
-use Rattle.cx_window.specs.Slice.{Sliced, written_of}
+use Rattle.cx_top.specs.Opening.{begun_at, scan_from}
+use Rattle.cx_window.specs.Cut.{CutsOff}
+use Rattle.cx_window.specs.Slice.{Sliced}
 
 -- the text of a window, from the run up to its first step and the run up to its end
 abbrev pub text_between : Recording → ℕ → ℕ → Option (Run StepRec) → Option (Run StepRec) → List ℕ
@@ -29,9 +32,13 @@ window_text a b o s =
 abbrev pub no_text : Opened → Scan → List ℕ
 no_text o s = []
 
--- `window a b`: nothing is written before all was judged
+-- A command of a window of its input, by what it writes: nothing before all was judged.
+abbrev pub of_window : (full : Opened → Scan → List ℕ) → (a b : ℕ) → Doing
+of_window full a b = of_recording false (λ o s. has_window (decoded o s) a b) full no_text
+
+-- `window a b`
 abbrev pub windowed : ℕ → ℕ → Doing
-windowed a b = of_recording false (λ o s. has_window (decoded o s) a b) (window_text a b) no_text
+windowed a b = of_window (window_text a b) a b
 
 -- ---- what such a window is
 
@@ -55,15 +62,18 @@ pub record WindowOf (a b : ℕ) (bytes : List ℕ) (W : Recording) : Type 0 wher
 
 -- ---- the parts of a call
 
--- a slice whose recording is the window's, in an input that has it
-pub record IsCut (d : Doing) (bytes : List ℕ) (slice : Sliced) : Type 0 where
-  pub good : d.refusal bytes ≡ None
-  pub text : d.full bytes ≡ recording_text (written_of slice)
+-- a slice that was cut off an input, which has the window
+pub record IsCut (a b : ℕ) (bytes : List ℕ) (slice : Sliced) : Type 0 where
+  pub opened : Opened
+  pub place : Place
+  pub begun : begun_at (start_of bytes) ≡ Ok (opened, place)
+  pub cuts : CutsOff opened (scan_from opened place) a b slice
 
 -- a slice of the window that the input has, or the answer to it
-abbrev pub ReadsSlice : ℕ → ℕ → List ℕ → (whole cut : Type 0) → Result Sliced Status → Type 0
-ReadsSlice a b bytes whole cut (Ok slice) = whole → IsCut (windowed a b) bytes slice
-ReadsSlice a b bytes whole cut (Err status) = Answers (windowed a b) bytes whole cut status
+abbrev pub ReadsSlice : (full : Opened → Scan → List ℕ) → (a b : ℕ) → List ℕ → (whole cut : Type 0)
+    → Result Sliced Status → Type 0
+ReadsSlice full a b bytes whole cut (Ok slice) = whole → IsCut a b bytes slice
+ReadsSlice full a b bytes whole cut (Err status) = Answers (of_window full a b) bytes whole cut status
 
 -- the answers that it may have
 abbrev pub IsWindowStatus : Status → Type 0

@@ -13,6 +13,7 @@ use crate::lines::Lines;
 use crate::replay::replay;
 use crate::status::Status;
 use crate::stream::stream;
+use crate::trace_window::trace_window;
 use crate::upgrade::Upgrade;
 use crate::window::window;
 use cx_io::{Sink, Source, World};
@@ -31,17 +32,19 @@ use std::alloc::Global;
 /// - `NotBuilt`: at 0, exactly where the words are those of a command that isn't built, and nothing is read; or where
 ///   `replay` meets the magic of a slice. Nothing is written.
 /// - `Format`, `Broken`: exactly where the first bad place of the input says so, and no fault came first.
-/// - `NotThere`: exactly where the input is a recording without the window's steps; only of `window`.
+/// - `NotThere`: exactly where the input is a recording without the window's steps; only of `window` and
+///   `trace window`.
 /// - `ReadFault`, `WriteFault`: only where the count of faults of the source, of the sink, rose in this call. Before a
 ///   fault of the source nothing bad was given.
 /// - `NoMemory`: where memory was refused.
 /// - `Done`: nothing is bad in the input, and all output was written.
 ///
 /// Nothing is left in the source after `Done` of a command that reads, and after `NotThere` and `WriteFault` of
-/// `window`; before another answer it may not have been read to its end.
+/// `window` and `trace window`; before another answer it may not have been read to its end.
 ///
-/// `window` writes nothing before the whole input was judged: the sink is as it was after every answer but `Done`,
-/// `WriteFault` and `NoMemory`, after which it holds the window's recording behind what it held, or a front of that.
+/// `window` and `trace window` write nothing before the whole input was judged: the sink is as it was after every
+/// answer but `Done`, `WriteFault` and `NoMemory`, after which it holds the window's recording, or the lines of its
+/// steps, behind what it held, or a front of that.
 ///
 /// `trace all` and `replay` write the lines of the steps as they are settled: after `Done` all of them; after `Format`,
 /// `Broken` and `ReadFault` as many whole blocks of 4,096 bytes as the lines of the settled steps fill; after
@@ -76,6 +79,12 @@ pub fn run<S: Source, T: Sink, W: World>(
 {
     match read_words(words) {
         Some(Command::Window(from, to)) => window(alloc, Span { from, to }, source, sink),
+        Some(Command::TraceWindow(from, to)) => trace_window(
+            alloc,
+            Span { from, to },
+            source,
+            sink,
+        ),
         Some(Command::TraceAll) => stream::<Lines, S, T>(alloc, source, sink),
         Some(Command::Replay) => replay(alloc, source, sink),
         Some(Command::Upgrade) => stream::<Upgrade, S, T>(alloc, source, sink),

@@ -6,6 +6,8 @@ ghost use Rattle.cx_log.specs.Text.{recording_text};
 ghost use Rattle.cx_map.specs.Bytes.{AreBytes};
 ghost use Rattle.cx_replay.specs.Records.{MayBeWhole};
 ghost use Rattle.cx_top.specs.Doing.{Answers, Doing};
+ghost use Rattle.cx_top.specs.Trace.{tracing};
+ghost use Rattle.cx_top.specs.TraceWindow.{IsPartOf, tracing_window};
 ghost use Rattle.cx_top.specs.Upgrade.{IsUpgraded, upgrading};
 ghost use Rattle.cx_top.specs.Window.{WindowOf, windowed};
 
@@ -19,6 +21,12 @@ pub fn good_inputs_are_done()
         → answer ≢ Status.ReadFault → answer ≢ Status.WriteFault
         → Answers d bytes (MayBeWhole left given input) (input ≡ given) answer
         → (answer ≡ Status.Done) ⊎ (answer ≡ Status.NoMemory) }
+{}
+
+/// What `trace window` writes of an input that it doesn't refuse stands in what `trace all` writes of the input.
+pub fn traced_windows_are_parts()
+    ensures { (a b : ℕ) (bytes : List ℕ) → AreBytes bytes → (tracing_window a b).refusal bytes ≡ None
+        → IsPartOf ((tracing_window a b).full bytes) (tracing.full bytes) }
 {}
 
 /// What `upgrade` writes of an input that it doesn't refuse is the text of the input's recording in version 2, which is

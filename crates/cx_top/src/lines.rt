@@ -1,9 +1,11 @@
 //! The lines of steps.
 
+ghost use Rattle.std.specs.Prelude.{◌≡◌, [], true, IfOk};
+
 use crate::telling::Teller;
 use cx_codec::{Out, OutFault};
 use cx_hart::{Machine, StepRec};
-use cx_io::Sink;
+use cx_io::{NoMemory, Sink};
 use cx_log::Header;
 use cx_print::step_line;
 use cx_replay::DueRecords;
@@ -22,6 +24,16 @@ impl Model for Lines {
     ghost Value = { Waiting };
 
     ghost view = { λ l. l.out };
+}
+
+impl Lines {
+    /// None yet.
+    pub(crate) fn new(alloc: Global) -> Result<Lines, NoMemory>
+        ensures { IfOk result (λ l. l ≡ record { bytes = []; live = true }) }
+    {
+        let out = Out::new(alloc)?;
+        Ok(Lines { out })
+    }
 }
 
 impl Teller for Lines {
@@ -47,8 +59,7 @@ impl Teller for Lines {
         _machine: &Machine,
         _sink: &mut T,
     ) -> Result<Lines, OutFault> {
-        let out = Out::new(alloc)?;
-        Ok(Lines { out })
+        Ok(Lines::new(alloc)?)
     }
 
     fn tell<T: Sink>(

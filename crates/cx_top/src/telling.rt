@@ -27,7 +27,7 @@ use cx_codec::OutFault;
 use cx_hart::{Machine, StepRec};
 use cx_io::{Sink, Source};
 use cx_log::{Header, LogReader};
-use cx_replay::{DueRecords, Replay};
+use cx_replay::{DueRecords, Records, Replay};
 use std::alloc::Global;
 
 /// What tells the steps of a run, in a text that grows with each step.
@@ -93,8 +93,8 @@ pub(crate) trait Teller: Drop {
 }
 
 // Takes the next step, and tells it; false where the recording was read to its end.
-fn tell_step<W: Teller, S: Source, T: Sink>(
-    replay: &mut Replay<LogReader>,
+fn tell_step<W: Teller, R: Records, S: Source, T: Sink>(
+    replay: &mut Replay<R>,
     teller: &mut W,
     rec: &mut StepRec,
     source: &mut S,
@@ -106,17 +106,17 @@ fn tell_step<W: Teller, S: Source, T: Sink>(
         (S.given source.new) }
     ensures tells { IsSome (S.left source.old) → (input : List ℕ) → Begins (S.given source.new) input
         → (end : ℕ) (o : Opened) (whole : Scan) (given : List StepRec) (base : Option (List ℕ)) → IsOrdered o whole
-        → Stands o whole given replay.old.machine replay.old.progress replay.old.records.bytes
-        (HasAhead replay.old.records (S.given source.old) input end)
+        → Stands o whole given replay.old.machine replay.old.progress (R.seen replay.old.records).bytes
+        (R.has replay.old.records (S.given source.old) input end)
         → Told base (W.text o whole given) (W.waiting teller.old) (T.held sink.old) (W.keeps teller.old o whole given)
         → Tells o whole (settled_by W.text o whole) base (T.held sink.new)
         (λ now. Told base (W.text o whole now) (W.waiting teller.new) (T.held sink.new)
         (W.keeps teller.new o whole now))
-        (λ now. Stands o whole now replay.new.machine replay.new.progress replay.new.records.bytes
-        (HasAhead replay.new.records (S.given source.new) input end)) replay.new.progress.at end
+        (λ now. Stands o whole now replay.new.machine replay.new.progress (R.seen replay.new.records).bytes
+        (R.has replay.new.records (S.given source.new) input end)) replay.new.progress.at end
         (MayBeWhole (S.left source.new) (S.given source.new) input) (input ≡ S.given source.new) result }
     ensures spent { IsSome (S.left source.old)
-        → IfOk result (λ going. OnFalse going (unwrap_or (S.left source.new) [] ≡ [])) }
+        → IfOk result (λ going. OnFalse going (R.leaves (S.left source.new))) }
     ensures live { OnOk result (IsTrue replay.new.live) }
     ensures ready { OnOk result (IsTrue (W.ready teller.new)) }
     ensures at { IfOk result (λ going. replay.new.progress.at
@@ -134,9 +134,9 @@ fn tell_step<W: Teller, S: Source, T: Sink>(
     Ok(true)
 }
 
-// Takes all steps, and tells them.
-fn tell_all<W: Teller, S: Source, T: Sink>(
-    replay: &mut Replay<LogReader>,
+/// Takes all steps, and tells them.
+pub(crate) fn tell_all<W: Teller, R: Records, S: Source, T: Sink>(
+    replay: &mut Replay<R>,
     teller: &mut W,
     source: &mut S,
     sink: &mut T,
@@ -147,15 +147,15 @@ fn tell_all<W: Teller, S: Source, T: Sink>(
         (S.given source.new) }
     ensures tells { IsSome (S.left source.old) → (input : List ℕ) → Begins (S.given source.new) input
         → (end : ℕ) (o : Opened) (whole : Scan) (base : Option (List ℕ)) → IsOrdered o whole
-        → Stands o whole [] replay.old.machine replay.old.progress replay.old.records.bytes
-        (HasAhead replay.old.records (S.given source.old) input end)
+        → Stands o whole [] replay.old.machine replay.old.progress (R.seen replay.old.records).bytes
+        (R.has replay.old.records (S.given source.old) input end)
         → Told base (W.text o whole []) (W.waiting teller.old) (T.held sink.old) (W.keeps teller.old o whole [])
         → TellsThrough o whole (settled_by W.text o whole) base (T.held sink.new)
         (λ now. Told base (W.text o whole now) (W.waiting teller.new) (T.held sink.new)
         (W.keeps teller.new o whole now))
         replay.new.progress.at end
         (MayBeWhole (S.left source.new) (S.given source.new) input) (input ≡ S.given source.new) result }
-    ensures spent { IsSome (S.left source.old) → OnOk result (unwrap_or (S.left source.new) [] ≡ []) }
+    ensures spent { IsSome (S.left source.old) → OnOk result (R.leaves (S.left source.new)) }
     ensures ready { OnOk result (IsTrue (W.ready teller.new)) }
     ensures kind { IfErr result IsStreamRefusal }
     ensures read_cause { HasCause Status.ReadFault (S.faults source.old) (S.faults source.new) result }

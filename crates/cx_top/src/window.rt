@@ -1,73 +1,18 @@
 //! The command `window`.
 
-ghost use Rattle.std.specs.Prelude.{◌≡◌, List, ℕ, false, IfOk, IfErr, IsSome, Ok};
-ghost use Rattle.cx_io.specs.Cause.{HasCause};
-ghost use Rattle.cx_codec.specs.Reads.{Begins, over, place_in};
-ghost use Rattle.cx_log.specs.Reading.{start_of};
-ghost use Rattle.cx_machine.specs.Machine.{IsMemory};
+ghost use Rattle.std.specs.Prelude.{◌≡◌, List, ℕ, false, IsSome};
+ghost use Rattle.cx_codec.specs.Reads.{Begins};
 ghost use Rattle.cx_map.specs.Bytes.{AreBytes};
-ghost use Rattle.cx_replay.specs.LogRecords.{IsBegun};
 ghost use Rattle.cx_replay.specs.Records.{MayBeWhole};
 ghost use Rattle.cx_top.specs.Call.{input_behind};
 ghost use Rattle.cx_top.specs.Doing.{Answers, CausedBy, Consumes, IsUntouched, Judges, Leaves};
-ghost use Rattle.cx_top.specs.Opening.{begun_at};
-ghost use Rattle.cx_top.specs.Window.{IsReadRefusal, IsWindowStatus, ReadAll, ReadsSlice, windowed};
+ghost use Rattle.cx_top.specs.Window.{IsWindowStatus, windowed};
 
-use crate::open::{Opening, open};
+use crate::slice::read_slice;
 use crate::status::Status;
 use cx_io::{Sink, Source};
-use cx_replay::Replay;
-use cx_window::{Slice, Span, cut};
+use cx_window::Span;
 use std::alloc::Global;
-
-// Reads the records of an opened recording, runs it, and cuts the window off.
-fn cut_opened<S: Source>(
-    alloc: Global,
-    opening: Opening,
-    span: Span,
-    source: &mut S,
-) -> Result<Slice, Status>
-    requires begun { IsBegun opening.reader }
-    requires state { opening.machine.state ≡ opening.reader.header.start }
-    requires memory { IsMemory opening.reader.header.pages opening.machine.memory }
-    requires split { opening.machine.split ≡ opening.reader.header.split }
-    ensures reads { IsSome (S.left source.old) → (input bytes : List ℕ) → Begins (S.given source.new) input
-        → AreBytes bytes
-        → begun_at (start_of bytes) ≡ Ok (
-          record { header = opening.reader.header; memory = opening.machine.memory },
-          place_in (over opening.reader.input (S.left source.old) (S.given source.old)) input,
-        )
-        → ReadsSlice span.from span.to bytes (MayBeWhole (S.left source.new) (S.given source.new) input)
-        (input ≡ S.given source.new) result }
-    ensures consumes { IsSome (S.left source.old)
-        → Consumes (S.left source.old) (S.given source.old) (S.left source.new) (S.given source.new) (ReadAll result) }
-    ensures kind { IfErr result IsReadRefusal }
-    ensures cause { HasCause Status.ReadFault (S.faults source.old) (S.faults source.new) result }
-{
-    let Opening { reader, machine } = opening;
-    let header = *reader.header();
-    let replay = Replay::of_log(alloc, reader, machine);
-    let window = cut(alloc, replay, &header, span, source)?;
-    match window {
-        Some(slice) => Ok(slice),
-        None => Err(Status::NotThere),
-    }
-}
-
-// Reads a whole recording, and cuts the window off.
-fn read_slice<S: Source>(alloc: Global, span: Span, source: &mut S) -> Result<Slice, Status>
-    ensures reads { IsSome (S.left source.old) → (input : List ℕ) → Begins (S.given source.new) input
-        → AreBytes (input_behind (S.given source.old) input)
-        → ReadsSlice span.from span.to (input_behind (S.given source.old) input)
-        (MayBeWhole (S.left source.new) (S.given source.new) input) (input ≡ S.given source.new) result }
-    ensures consumes { IsSome (S.left source.old)
-        → Consumes (S.left source.old) (S.given source.old) (S.left source.new) (S.given source.new) (ReadAll result) }
-    ensures kind { IfErr result IsReadRefusal }
-    ensures cause { HasCause Status.ReadFault (S.faults source.old) (S.faults source.new) result }
-{
-    let opening = open(alloc, source)?;
-    cut_opened(alloc, opening, span, source)
-}
 
 /// Reads a recording, runs it, and writes the window of it.
 pub(crate) fn window<S: Source, T: Sink>(

@@ -93,3 +93,45 @@ fn a_prefix_is_left(rt: HostRuntime) -> Result<(), Fail> {
     }
     Ok(())
 }
+
+/// Where the source fails before the records, nothing was written; at the read behind End all steps are settled, of
+/// which whole blocks are there.
+#[test]
+fn a_source_fails_at_each_call(rt: HostRuntime) -> Result<(), Fail> {
+    let alloc = rt.alloc();
+    for (words, settled) in [
+        (["window", "0", "2"].as_slice(), 0),
+        (["trace", "all"].as_slice(), 0),
+        (["replay"].as_slice(), 0),
+        (["upgrade"].as_slice(), 4096),
+    ] {
+        for (call, count) in [(0, 0), (1, 0), (2, settled)] {
+            let mut source = MemSource::new(two_steps(alloc)?, [call].to_vec(alloc)?);
+            let mut sink = MemSink::new(alloc, Vec::new(alloc));
+            let status = answer(alloc, words, &mut source, &mut sink)?;
+            assert_eq!(rt; status, Status::ReadFault, "{call}");
+            assert_eq!(rt; sink.bytes().len(), count, "{call}");
+        }
+    }
+    Ok(())
+}
+
+/// What was written before the call that fails is left.
+#[test]
+fn a_sink_fails_at_each_call(rt: HostRuntime) -> Result<(), Fail> {
+    let alloc = rt.alloc();
+    for (words, call, count) in [
+        (["trace", "all"].as_slice(), 0, 0),
+        (["replay"].as_slice(), 0, 0),
+        (["upgrade"].as_slice(), 0, 0),
+        (["upgrade"].as_slice(), 1, 4096),
+        (["upgrade"].as_slice(), 2, 4340),
+    ] {
+        let mut source = MemSource::new(two_steps(alloc)?, Vec::new(alloc));
+        let mut sink = MemSink::new(alloc, [call].to_vec(alloc)?);
+        let status = answer(alloc, words, &mut source, &mut sink)?;
+        assert_eq!(rt; status, Status::WriteFault, "{call}");
+        assert_eq!(rt; sink.bytes().len(), count, "{call}");
+    }
+    Ok(())
+}

@@ -1,10 +1,8 @@
-use Rattle.std.proofs.Common.{◌≡◌, ℕ, ◌+◌, ◌-◌, ◌^◌, ◌<◌, ◌≤◌, [], if◌then◌else◌, List, Option, IsSome, IsTrue}
-use Rattle.std.proofs.Common.{unwrap_or}
+use Rattle.std.proofs.Common.{ℕ, ◌+◌, ◌-◌, ◌^◌, ◌<◌, ◌≤◌, [], if◌then◌else◌, List, Option, IsSome, IsTrue}
 use Rattle.std.specs.Bool.{OnFalse}
 use Rattle.cx_codec.specs.Reads.{Begins}
 use Rattle.cx_log.specs.Reading.{Opened}
 use Rattle.cx_log.specs.Scan.{Scan}
-use Rattle.cx_replay.specs.LogRecords.{HasAhead}
 use Rattle.cx_replay.specs.Records.{GaveMore, MayBeWhole}
 use Rattle.cx_replay.specs.Replaying.{Stands}
 use Rattle.cx_top.specs.Streaming.{IsOrdered, IsTold, Told}
@@ -25,15 +23,15 @@ invariant-loop-going g l =
           (given l.source);
       told : IsSome (left l.fn.source) → (input : List ℕ) → Begins (given l.source) input
           → (end : ℕ) (o : Opened) (whole : Scan) (base : Option (List ℕ)) → IsOrdered o whole
-          → Stands o whole [] l.fn.replay.machine l.fn.replay.progress l.fn.replay.records.bytes
-          (HasAhead l.fn.replay.records (given l.fn.source) input end)
+          → Stands o whole [] l.fn.replay.machine l.fn.replay.progress (g.R.Records.seen l.fn.replay.records).bytes
+          (g.R.Records.has l.fn.replay.records (given l.fn.source) input end)
           → Told base (text o whole []) (waiting l.fn.teller) (held l.fn.sink) (keeps l.fn.teller o whole [])
           → IsTold o whole
           (λ now. Told base (text o whole now) (waiting l.teller) (held l.sink) (keeps l.teller o whole now))
-          (λ now. Stands o whole now l.replay.machine l.replay.progress l.replay.records.bytes
-          (HasAhead l.replay.records (given l.source) input end)) l.replay.progress.at
+          (λ now. Stands o whole now l.replay.machine l.replay.progress (g.R.Records.seen l.replay.records).bytes
+          (g.R.Records.has l.replay.records (given l.source) input end)) l.replay.progress.at
           (MayBeWhole (left l.source) (given l.source) input) l.going;
-      spent : IsSome (left l.fn.source) → OnFalse l.going (unwrap_or (left l.source) [] ≡ []);
+      spent : IsSome (left l.fn.source) → OnFalse l.going (g.R.Records.leaves (left l.source));
       live : IsTrue l.replay.live;
       ready : IsTrue (g.W.Teller.ready l.teller);
       later : faults l.fn.source ≤ faults l.source;

@@ -1,6 +1,5 @@
 use Rattle.std.proofs.Common.{◌∙◌, ◌<◌, [], ◌∷◌, ◌++◌, ap, arith, length-append, sym}
 use Rattle.std.proofs.lemmas.Result.{err_from_is_err_and}
-use Rattle.cx_replay.specs.LogRecords.{HasAhead}
 use Rattle.cx_run.specs.Due.{due_at}
 use Rattle.cx_top.proofs.Streams.{given_upto, tell_refused, told_end, told_fault}
 use Rattle.cx_top.proofs.telling.tell_step.Goals as goal
@@ -9,8 +8,8 @@ pub returns-in_err-next_into-clause-tells : goal.returns-in_err-next_into-clause
 returns-in_err-next_into-clause-tells g c told input begins end o whole given base ordered stands so_far =
     let p = err_from_is_err_and c.from_residual.result c.from_residual.ensures.1 in
     let now = c.next_into.new.self in
-    rw (p.1, p.2) (told_fault (g.W.Teller.text o whole) now.machine now.progress now.records.bytes
-    (HasAhead now.records (g.S.Source.given c.next_into.new.source) input end) now.due end _ _ base _ _
+    rw (p.1, p.2) (told_fault (g.W.Teller.text o whole) now.machine now.progress (g.R.Records.seen now.records).bytes
+    (g.R.Records.has now.records (g.S.Source.given c.next_into.new.source) input end) now.due end _ _ base _ _
     c.in_err-next_into.field-0.0 (λ xs ys. g.met.W.Teller.grows o whole xs ys ordered) stands so_far.stands
     (c.in_err-next_into.ensures.answers told input begins end o whole given stands))
 
@@ -22,8 +21,8 @@ returns-then-not-branch-clause-tells g c told input begins end o whole given bas
     let still = rw c.if-not-branch.true at c.in_ok-next_into.ensures.at in (
       given,
       (
-        told_end now.machine now.progress now.records.bytes
-            (HasAhead now.records (g.S.Source.given c.next_into.new.source) input end) now.due end _ _ (Unit {0})
+        told_end now.machine now.progress (g.R.Records.seen now.records).bytes
+            (g.R.Records.has now.records (g.S.Source.given c.next_into.new.source) input end) now.due end _ _ (Unit {0})
             stands still answers,
         so_far,
       ),

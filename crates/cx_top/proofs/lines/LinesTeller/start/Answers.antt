@@ -3,4 +3,4 @@ use Rattle.cx_top.proofs.lines.LinesTeller.start.Goals as goal
 
 pub returns-clause-starts : goal.returns-clause-starts
 returns-clause-starts g c o whole header memory =
-    record { stands = rw c.in_ok-out.ensures (nothing_put _); keeps = tt }
+    record { stands = rw c.in_ok-new.ensures (nothing_put _); keeps = tt }

@@ -8,7 +8,7 @@ use Rattle.cx_top.specs.Call.{input_behind}
 use Rattle.cx_top.specs.Opening.{begun_at}
 use Rattle.cx_top.proofs.Answering.{refused_window}
 use Rattle.cx_top.proofs.Consuming.{consumes_on, consumes_some, gave_of_follows, log_fault_is_early}
-use Rattle.cx_top.proofs.window.read_slice.Goals as goal
+use Rattle.cx_top.proofs.slice.read_slice.Goals as goal
 
 pub returns-in_err-opening-clause-consumes : goal.returns-in_err-opening-clause-consumes
 returns-in_err-opening-clause-consumes g c told =
@@ -23,13 +23,13 @@ returns-clause-consumes g c told =
     consumes_on (gave_of_follows opened) (c.cut_opened.ensures.consumes opened.told)
 
 pub returns-in_err-opening-clause-reads : goal.returns-in_err-opening-clause-reads
-returns-in_err-opening-clause-reads g c told input begins are =
+returns-in_err-opening-clause-reads g c told full input begins are =
     let p = err_from_is_err_and c.from_residual.result c.from_residual.ensures.1 in
-    rw (p.1, p.2) (refused_window c.args.span.from c.args.span.to _ _ _ c.in_err-opening.field-0.0
+    rw (p.1, p.2) (refused_window full c.args.span.from c.args.span.to _ _ _ c.in_err-opening.field-0.0
     ((c.in_err-opening.ensures.opens told).reads.reads input begins))
 
 pub returns-clause-reads : goal.returns-clause-reads
-returns-clause-reads g c told input begins are =
+returns-clause-reads g c told full input begins are =
     let opened = c.in_ok-opening.ensures.opens told in
     let first = begins_on (c.cut_opened.ensures.consumes opened.reads.follows.told).gave.grows begins in
     let read = opened.reads.reads input first in
@@ -38,5 +38,5 @@ returns-clause-reads g c told input begins are =
       record { header = c.in_ok-opening.opening.reader.header; memory = c.in_ok-opening.opening.machine.memory },
       place_in (over b (g.S.Source.left c.open.new.source) (g.S.Source.given c.open.new.source)) input,
     )) (sym opened.keeps) read in
-    c.cut_opened.ensures.reads opened.reads.follows.told input (input_behind (g.S.Source.given c.args.source.now) input)
-    begins are stood
+    c.cut_opened.ensures.reads opened.reads.follows.told full input
+    (input_behind (g.S.Source.given c.args.source.now) input) begins are stood
