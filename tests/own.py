@@ -2,7 +2,8 @@
 import pathlib
 
 from recordings import MACHINE, RAM, Dma, Lines, Recording, State, Value, assemble, page, reset
-from recordings.reading import read
+from recordings.image import Image
+from recordings.reading import read, read_image
 
 EXAMPLE = pathlib.Path(__file__).resolve().parent.parent / 'examples' / 'two_steps.cxr'
 
@@ -96,3 +97,8 @@ def checks():
         long = Recording(reset(), {0: page(1)}, base=3, end=70000, events=events, version=version).marked()
         bad = read(long.spell())[1]
         yield f'records of version {version} are read again', [f'bad at {bad}'] if bad is not None else []
+    for version in (1, 2):
+        image = Image({1: page(1)}, 3, bytes(1024), b'ab', version, version == 2)
+        reader, bad = read_image(image.spell())
+        is_same = bad is None and reader.made_image() == image
+        yield f'an image of version {version} is read again', [] if is_same else [f'bad at {bad}, or another image']

@@ -10,6 +10,18 @@ READS_VERSION_2 = True
 # Whether a step that asks for a value and has none is called broken, and not one that isn't built.
 CALLS_MISSING_VALUES_BROKEN = True
 
+# Whether records that are kept take about the memory that their bytes do. A program that keeps a short Dma in 60 bytes
+# doesn't: of a million before one step it keeps more than the 64 MB that every input may take.
+CROWDS_FIT = False
+
+# Whether the disk of an image takes memory as its bytes come. A program that takes all of it at once wants 64 MB for the
+# most sectors that an image may promise, and its own code beside them.
+DISKS_GROW = False
+
+# Whether machines are recorded. A program that doesn't do it says so, and reads nothing.
+RECORDS = True
+not_recorded = not_built(0)
+
 
 def without_value(step):
     """The status where this step asks for a value of the outside, and there is none."""

@@ -1,10 +1,11 @@
-"""Reads the bytes of a recording field by field, up to its end or to the first bad place.
+"""Reads the bytes of a recording or an image field by field, up to its end or to the first bad place.
 
 It is written from docs/FORMATS.md alone, so that it judges bytes independently of the program. It carries out no step.
 """
 from dataclasses import dataclass
 
-from .recording import MARK_EVERY, PAGE, RAM
+from .image import MAGIC, MOST_CONSOLE, MOST_SECTORS, SECTOR, Image
+from .recording import MARK_EVERY, PAGE, RAM, Dma, Lines, Mark, Value
 from .registers import STATE
 
 MOST_PAGES, MOST_STEPS = 262144, 1 << 48
@@ -33,12 +34,22 @@ class Field:
     value: object
 
 
+@dataclass(frozen=True)
+class Entry:
+    """A record that was read: where it stands, how long it is, and what it says. That of End is its step."""
+    offset: int
+    length: int
+    event: object
+
+
 class Reader:
-    """The fields that were read so far, in order."""
+    """The fields that were read so far, in order, and the records and pages among them."""
 
     def __init__(self, data):
         self.data, self.at, self.fields = data, 0, []
-        self.records_at = None
+        self.records_at, self.pages_at = None, None
+        self.entries, self.memory = [], {}
+        self.version, self.split = 1, 0
 
     def take(self, count):
         if self.at + count > len(self.data):
@@ -83,8 +94,7 @@ class Reader:
         self.ram = self.varint()
         if self.ram == 0:
             self.note(start, 'version', 2)
-            self.judge(self.byte() in (0, 1), self.at - 1)
-            self.note(self.at - 1, 'split', self.data[self.at - 1])
+            self.flag()
             start = self.at
             self.ram = self.varint()
         self.judge(1 <= self.ram <= MOST_PAGES, start)
@@ -95,6 +105,12 @@ class Reader:
             start = self.at
             self.state[name] = self.note(start, name, self.word())
             self.judge(self.is_admitted(name), start)
+
+    def flag(self):
+        """Version 2 has the flag of the hart."""
+        self.version, self.split = 2, self.byte()
+        self.judge(self.split in (0, 1), self.at - 1)
+        self.note(self.at - 1, 'split', self.split)
 
     def is_admitted(self, name):
         value = self.state[name]
@@ -108,13 +124,14 @@ class Reader:
         return value & ~MASKS.get(name, ~0) & 0xffffffff == 0
 
     def pages(self):
-        least = 0
+        least, self.pages_at = 0, self.at
         for _ in range(self.bounded('pages that follow', 0, self.ram)):
             number = self.bounded('number of a page', least, self.ram - 1)
             least = number + 1
             start = self.at
             content = self.take(PAGE)
             self.judge(any(content), start)
+            self.memory[number] = content
             for offset in range(0, PAGE, 4):
                 value = int.from_bytes(content[offset:offset + 4], 'little')
                 if value:
@@ -138,6 +155,7 @@ class Reader:
             if tag == 0:
                 self.judge(self.base < behind <= MOST_STEPS and (count == 0 or delta > 0), delta_at)
                 self.note(tag_at, 'End', behind)
+                self.entries.append(Entry(tag_at, self.at - tag_at, behind))
                 return
             is_multiple = behind % MARK_EVERY == 0 and behind > self.base
             self.judge(behind < MOST_STEPS and RANKS[tag] >= rank, delta_at)
@@ -146,10 +164,12 @@ class Reader:
             step, rank, count = behind, RANKS[tag], count + 1
             if tag == 4:
                 marked = self.note(tag_at, f'Mark at step {step}', step)
-            lines = self.payload(tag, step, lines)
+            event = self.payload(tag, step, lines)
+            lines = event.mask if tag == 2 else lines
+            self.entries.append(Entry(tag_at, self.at - tag_at, event))
 
     def payload(self, tag, step, lines):
-        """The payload of a record; gives the lines that stand behind it."""
+        """The record with its payload, where these lines stand."""
         start = self.at
         if tag == 1:
             place = self.word()
@@ -157,14 +177,16 @@ class Reader:
             length_at = self.at
             length = self.varint()
             self.judge(1 <= length <= PAGE and place - RAM + length <= self.ram * PAGE, length_at)
-            self.note(start, f'Dma before step {step}', (f'{place:08x}', self.take(length).hex()))
-        elif tag == 2:
+            content = self.take(length)
+            self.note(start, f'Dma before step {step}', (f'{place:08x}', content.hex()))
+            return Dma(step, place, content)
+        if tag == 2:
             mask = self.word()
             self.judge(mask & ~LINES == 0 and mask != lines, start)
-            return self.note(start, f'Lines before step {step}', mask)
-        elif tag == 3:
-            self.note(start, f'Value of step {step}', self.word())
-        return lines
+            return Lines(step, self.note(start, f'Lines before step {step}', mask))
+        if tag == 3:
+            return Value(step, self.note(start, f'Value of step {step}', self.word()))
+        return Mark(step)
 
     def whole(self):
         self.header()
@@ -172,19 +194,45 @@ class Reader:
         self.records()
         self.judge(self.at == len(self.data), self.at)
 
+    def image(self):
+        magic = self.take(4)
+        self.judge(magic in MAGIC.values(), 0)
+        if magic == MAGIC[2]:
+            self.flag()
+        self.ram = self.bounded('pages of RAM', 1, MOST_PAGES)
+        self.pages()
+        self.disk = self.take(SECTOR * self.bounded('sectors', 0, MOST_SECTORS))
+        self.console = self.take(self.bounded('bytes of the console', 0, MOST_CONSOLE))
+        self.judge(self.at == len(self.data), self.at)
 
-def read(data):
+    def made_image(self):
+        """The image, once it was read whole."""
+        return Image(self.memory, self.ram, self.disk, self.console, self.version, bool(self.split))
+
+
+def judged(reader, part):
     """The fields of the bytes, and the offset of the first bad place, or None where there is none."""
-    reader = Reader(data)
     try:
-        reader.whole()
+        part(reader)
     except Bad as bad:
         return reader, bad.offset
     return reader, None
 
 
+def read(data):
+    """The fields of a recording, and the offset of its first bad place, or None where there is none."""
+    return judged(Reader(data), Reader.whole)
+
+
+def read_image(data):
+    """The fields of an image, and the offset of its first bad place, or None where there is none."""
+    return judged(Reader(data), Reader.image)
+
+
 def show(value):
-    return f'{value:08x}' if isinstance(value, int) else str(value)
+    """A value in few characters."""
+    text = f'{value:08x}' if isinstance(value, int) else str(value)
+    return text if len(text) <= 80 else f'{text[:80]}..'
 
 
 def differences(got, want, most=6):

@@ -69,6 +69,11 @@ def page(*lines, at=0):
     return (bytes(at) + words(*assemble(*lines))).ljust(PAGE, b'\0')
 
 
+def spell_pages(memory):
+    """How many pages there are, and each with its number; they rise."""
+    return varint(len(memory)) + b''.join(varint(number) + memory[number] for number in sorted(memory))
+
+
 @dataclass(frozen=True)
 class Dma:
     """A device writes bytes to RAM before the step."""
@@ -138,19 +143,16 @@ class Recording:
     def head(self):
         """The bytes before the records."""
         version = b'' if self.version == 1 else bytes([0, self.split])
-        spelled = b'CXR1' + version + varint(self.ram) + varint(self.base) + self.start.spell()
-        spelled += varint(len(self.memory))
-        for number in sorted(self.memory):
-            spelled += varint(number) + self.memory[number]
-        return spelled
+        return (b'CXR1' + version + varint(self.ram) + varint(self.base) + self.start.spell()
+                + spell_pages(self.memory))
 
     def records(self):
         """The bytes of the records, End among them, in the order in which the events are given."""
-        spelled, last = b'', self.base
+        spelled, last = bytearray(), self.base
         for event in self.events:
             spelled += bytes([event.tag]) + varint(event.step - last) + event.payload()
             last = event.step
-        return spelled + b'\0' + varint(self.end - last)
+        return bytes(spelled) + b'\0' + varint(self.end - last)
 
     def spell(self):
         return self.head() + self.records()

@@ -1,7 +1,7 @@
 //! The program: a command over standard input and standard output, and how it ended on standard error.
 #![tactic(auto)]
 
-use cx_io::{SeedWorld, StdSink, StdSource};
+use cx_io::{ClockWorld, StdSink, StdSource};
 use cx_top::{Status, run};
 use std::env;
 use std::io::{ErrorKind, Write};
@@ -32,7 +32,7 @@ fn carry_out(rt: &HostRuntime) -> Status {
     };
     let mut source = StdSource::new(rt.stdin());
     let mut sink = StdSink::new(rt.stdout());
-    let mut world = SeedWorld::new(0);
+    let mut world = ClockWorld::new(rt);
     run(rt.alloc(), words, &mut source, &mut sink, &mut world)
 }
 

@@ -132,7 +132,7 @@ along {met} {view} {a} {reader} {old} {new} {result} same first = record {
 }
 
 -- What is said of the input as it is,
-place_there : (b : Buffered) (left : Option (List ℕ)) (given : List ℕ)
+pub place_there : (b : Buffered) (left : Option (List ℕ)) (given : List ℕ)
     → place_in (over b left given) (given ++ unwrap_or left []) ≡ seen b left
 place_there b left given =
     ap (λ (rest : List ℕ). record { at = b.at; limit = b.limit; ahead = b.ready ++ rest })

@@ -69,7 +69,7 @@ use Rattle.cx_hart.proofs.Writes.{WritesInside, turn_writes}
 
 -- ---- a row that accesses memory has an effect
 
-access_effect : (op : Op) (v w : Values) → IsSome (need_of (row_ask op v)) → (e : Effect) × (row_effect op w ≡ Ok e)
+pub access_effect : (op : Op) (v w : Values) → IsSome (need_of (row_ask op v)) → (e : Effect) × (row_effect op w ≡ Ok e)
 access_effect Lb v w some = (_, refl)
 access_effect Lh v w some = (_, refl)
 access_effect Lw v w some = (_, refl)

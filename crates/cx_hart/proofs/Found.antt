@@ -63,7 +63,7 @@ module _ (here : Surroundings) where
   fetch_inside (Ok (Ram place)) found = ram_stretch here.memory 4 place (inr (inr refl)) found
   fetch_inside (Ok (Device place)) found = elim found.plain [ inl e ↦ absurd cc | inr e ↦ absurd cc ]
 
-  fetched_inside : here.state.pc % 4 ≡ 0 → IfOk (translated here Fetch here.state.pc 4).end
+  pub fetched_inside : here.state.pc % 4 ≡ 0 → IfOk (translated here Fetch here.state.pc 4).end
       (λ place. IsStretch (length here.memory) (address_of place) 4)
   unfolding translated
   fetched_inside aligned = fetch_inside (walk_in here Fetch here.state.pc 4).answer

@@ -123,7 +123,7 @@ joined_fit [] ys one two k = two k
 joined_fit (x ∷ xs) ys one two zero = one 0
 joined_fit (x ∷ xs) ys one two (suc k) = joined_fit xs ys (λ j. one (suc j)) two k
 
-touch_bytes : (part : Part) (value : ℕ) → AreBytes (touch part value).bytes
+pub touch_bytes : (part : Part) (value : ℕ) → AreBytes (touch part value).bytes
 unfolding touch
 touch_bytes part value = joined_fit (low_bytes part.len value) (replicate (4 - length (low_bytes part.len value)) 0)
     (low_bytes_fit part.len value) (zeros_fit (4 - length (low_bytes part.len value)))

@@ -32,3 +32,6 @@ pub mod SameWalks
 pub mod SameLooks
 pub mod SameStep
 pub mod FormedRecords
+pub mod Taking
+pub mod TakenValues
+pub mod StepTakes

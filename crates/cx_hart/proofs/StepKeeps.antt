@@ -133,7 +133,7 @@ transfer_kept pages t m is fits =
           record { size = kept.size ∙ is.memory.size; bytes = kept.bytes };
     }
 
-transfers_kept : (pages : ℕ) (transfers : List Transfer) (m : MachineState) → IsMachine pages m
+pub transfers_kept : (pages : ℕ) (transfers : List Transfer) (m : MachineState) → IsMachine pages m
     → AreTransfers (size_of_pages pages) transfers → IsMachine pages (after_transfers transfers m)
 transfers_kept pages [] m is all = is
 transfers_kept pages (t ∷ transfers) m is all =

@@ -22,3 +22,4 @@ pub mod Reads
 pub mod Conclude
 pub mod Outcomes
 pub mod WellFormed
+pub mod Taking

@@ -74,7 +74,7 @@ fn carry_any<R: Tells>(
 
 /// Tells that a value has 32 bits.
 #[inline(always)]
-fn is_word(value: Option<u32>)
+pub(crate) fn is_word(value: Option<u32>)
     ensures { IfSome value (λ v. v < 2 ^ 32) }
 {
     if let Some(word) = value {

@@ -1,15 +1,18 @@
 //! What holds of every step.
 
-ghost use Rattle.std.specs.Prelude.{◌≡◌, Bool, List, [], ◌∷◌, Some};
+ghost use Rattle.std.specs.Prelude.{◌≡◌, ◌≢◌, ℕ, Bool, List, [], ◌∷◌, None, Some, IfSome};
 ghost use Rattle.cx_machine.specs.Due.{Due, behind_transfers};
 ghost use Rattle.cx_machine.specs.Machine.{MachineState};
 ghost use Rattle.cx_machine.specs.Step.{IsFramed, KeepsMachine, SetsLines, Stepped};
 ghost use Rattle.cx_machine.specs.Transfers.{Transfer, after_transfers};
 ghost use Rattle.cx_hart.specs.HartStep.{hart_step};
 ghost use Rattle.cx_hart.specs.Reads.{read_indices};
-ghost use Rattle.cx_hart.specs.Step.{step};
+ghost use Rattle.cx_hart.specs.Step.{NeedsValue, ValueLeft, step};
+ghost use Rattle.cx_hart.specs.Taking.{Took};
 ghost use Rattle.cx_hart.specs.WellFormed.{IsWellFormed};
+ghost use Rattle.cx_hart.specs.declared.answer.Asked.{Asked};
 ghost use Rattle.cx_hart.specs.declared.record.StepRec.{StepRec};
+ghost use Rattle.cx_map.specs.Bytes.{AreBytes};
 
 /// A step is the same as that without transfers on the machine behind them, and they go to the machine one by one.
 pub fn transfers_come_first()
@@ -42,4 +45,18 @@ pub fn a_step_sets_the_lines()
 pub fn a_record_is_well_formed()
     ensures { (split : Bool) (m : MachineState) (due : Due) (then : Stepped StepRec)
         → hart_step split m due ≡ Some then → IsWellFormed then.rec }
+{}
+
+/// A step that asks for a value is carried out with any, and its record has that. One to which no value is due leaves
+/// none. The record of a step has the value that was due, if one was, and what it wrote are bytes.
+pub fn a_step_takes_its_value()
+    ensures takes { (split : Bool) (due : Due) (m : MachineState) (what : Asked) (v : ℕ)
+        → step split (record due { value = None }) m ≡ NeedsValue what
+        → Took v (step split (record due { value = Some v }) m) }
+    ensures leaves { (split : Bool) (due : Due) (m : MachineState)
+        → step split (record due { value = None }) m ≢ ValueLeft }
+    ensures value { (split : Bool) (m : MachineState) (due : Due) (then : Stepped StepRec)
+        → hart_step split m due ≡ Some then → then.rec.value ≡ due.value }
+    ensures bytes { (split : Bool) (m : MachineState) (due : Due) (then : Stepped StepRec)
+        → hart_step split m due ≡ Some then → IfSome then.rec.write (λ t. AreBytes t.bytes) }
 {}

@@ -35,9 +35,10 @@ mod view;
 
 pub use answer::{Asked, Due, StepAnswer, Went};
 pub use cx_ram::NoMemory;
+pub use findings::{Control, Part, Reading, Retired, Stop, Target};
 pub use laws::{
     a_record_is_well_formed, a_step_is_framed, a_step_keeps_the_machine, a_step_sets_the_lines,
-    transfers_come_first,
+    a_step_takes_its_value, transfers_come_first,
 };
 pub use machine::Machine;
 pub use moment::Moment;

@@ -1,6 +1,6 @@
 //! The machine: a hart and its RAM, which take steps in place.
 
-ghost use Rattle.std.specs.Prelude.{◌≡◌, ℕ, ◌+◌, ◌*◌, ◌/◌, ◌^◌, ◌<◌, ◌≤◌, [], ◌∷◌, replicate, length, IfErr, IfOk};
+ghost use Rattle.std.specs.Prelude.{◌≡◌, ℕ, ◌+◌, ◌*◌, ◌/◌, ◌<◌, ◌≤◌, [], ◌∷◌, replicate, length, IfErr, IfOk};
 ghost use Rattle.std.specs.Prelude.{IfSome, Some, false, refl};
 ghost use Rattle.cx_csr.specs.Keeps.{Keeps};
 ghost use Rattle.cx_machine.specs.Due.{AreLines, with_lines};
@@ -15,7 +15,7 @@ ghost use Rattle.cx_hart.specs.Step.{answer_with, machine_after, step, step_answ
 ghost use Rattle.cx_hart.specs.Whole.{IsLive, machine_at, machine_of};
 
 use crate::answer::{Due, StepAnswer, Went};
-use crate::carry::turn;
+use crate::carry::{is_word, turn};
 use crate::moment::Moment;
 use crate::record::StepRec;
 use crate::steps::Steps;
@@ -328,16 +328,6 @@ impl Machine {
                 Went::ValueLeft
             }
         }
-    }
-}
-
-/// Tells that a value has 32 bits.
-#[inline]
-fn is_word(value: Option<u32>)
-    ensures { IfSome value (λ v. v < 2 ^ 32) }
-{
-    if let Some(word) = value {
-        let _ = word;
     }
 }
 

@@ -1,13 +1,6 @@
-//! Steps by examples, with what the standard says of them.
+//! What no clause and no recording shows: that calls succeed with memory at hand, and that the ways to take a step agree.
 
-mod causes;
-mod counters;
-mod interrupts;
+mod acting;
 mod machine;
-mod parts;
-mod play;
-mod record;
-mod reserved;
-mod space;
 mod values;
 mod ways;

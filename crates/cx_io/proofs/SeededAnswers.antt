@@ -43,7 +43,7 @@ unfolding first_answers
 first_answers-next s n = rw add-one refl
 
 -- Told lists by two tests, of the count before and of the count after.
-AddsAnswer-by_tests : (b c : Bool) (given now : List Outside) (answer : Outside)
+pub AddsAnswer-by_tests : (b c : Bool) (given now : List Outside) (answer : Outside)
     → (b ≡ true → c ≡ true → now ≡ given ++ answer ∷ []) → (b ≡ true → c ≡ false → 2 ^ 63 ≤ length given)
     → (b ≡ false → c ≡ false)
     → AddsAnswer (cond b (Some given) None) (cond c (Some now) None) (Ok answer)

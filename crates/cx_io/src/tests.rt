@@ -1,12 +1,15 @@
 //! Happy paths, and calls that fail in mid-stream, each through its trait.
 
 use crate::{
-    Failed, MemSink, MemSource, SeedWorld, Sink, SinkRefusal, Source, StdSink, StdSource, World,
+    ClockWorld, Failed, MemSink, MemSource, Outside, ScriptWorld, SeedWorld, Sink, SinkRefusal,
+    Source, StdSink, StdSource, World,
 };
+use std::cell::Cell;
 use std::io;
 use std::io::{Read, Write};
 use std::process::Abort;
 use std::test::Fail;
+use std::time::{Clock, Duration};
 
 /// One read into four zeros.
 fn read_four<S: Source>(source: &mut S) -> Result<(usize, [u8; 4]), Failed> {
@@ -148,4 +151,61 @@ fn streams_pass_on_what_their_handles_answer(rt: HostRuntime) {
     assert_eq!(rt; sink.flush(), Ok(()));
     assert_eq!(rt; StdSource::new(rt.stdin()).read(&mut []), Ok(0));
     assert_eq!(rt; StdSink::new(rt.stdout()).write(b""), Ok(0));
+}
+
+#[test]
+fn a_script_gives_its_answers_and_then_nothing(rt: HostRuntime) -> Result<(), Fail> {
+    let alloc = rt.alloc();
+    let first = Outside {
+        ticks: 7,
+        console: true,
+        block: false,
+    };
+    let quiet = Outside {
+        ticks: 0,
+        console: false,
+        block: false,
+    };
+    let mut world = ScriptWorld::new([first].to_vec(alloc)?, [1].to_vec(alloc)?);
+    assert_eq!(rt; world.turn(), Ok(first));
+    assert_eq!(rt; world.turn(), Err(Failed));
+    assert_eq!(rt; world.turn(), Ok(quiet));
+    Ok(())
+}
+
+/// A clock that shows 0.9 microseconds more at each look, and can't be read at the fourth.
+#[derive(Drop)]
+struct Slow {
+    looks: Cell<u64>,
+}
+
+impl Clock for Slow {
+    fn monotonic(&self) -> io::Result<Duration> {
+        let look = self.looks.get();
+        self.looks.set(look.wrapping_add(1));
+        if look == 3 {
+            return Err(io::Error::other("slow"));
+        }
+        Ok(Duration::from_nanos(look.wrapping_mul(900)))
+    }
+
+    fn since_1970(&self) -> io::Result<Duration> {
+        self.monotonic()
+    }
+}
+
+#[test]
+fn a_clock_counts_each_microsecond_once(rt: HostRuntime) {
+    let mut world = ClockWorld::new(Slow {
+        looks: Cell::new(0),
+    });
+    let ticks = [Some(0), Some(0), Some(1), None, Some(2), Some(1)];
+    for wanted in ticks {
+        let given = match world.turn() {
+            Ok(answer) => Some(answer.ticks),
+            Err(Failed) => None,
+        };
+        assert_eq!(rt; given, wanted);
+    }
+    assert!(rt; ClockWorld::new(&rt).turn().is_ok());
 }

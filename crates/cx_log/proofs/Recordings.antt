@@ -128,7 +128,7 @@ cond_few : (t : Bool) → cond t 0 1 ≤ 1
 cond_few true = omega arith
 cond_few false = omega arith
 
-few_pages : (m : List ℕ) (n : ℕ) → page_count m n ≤ n
+pub few_pages : (m : List ℕ) (n : ℕ) → page_count m n ≤ n
 few_pages m zero = omega arith
 few_pages m (suc n) = omega (arith, few_pages m n, cond_few (is_zero (page_of m n)))
 

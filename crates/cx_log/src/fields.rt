@@ -30,8 +30,9 @@ fn is_between(number: u64, least: u64, greatest: u64) -> bool
     least <= number && number <= greatest
 }
 
-/// A number from `least` to `greatest`.
-pub(crate) fn varint_between<S: Source>(
+/// A number from `least` to `greatest`. `Format` comes exactly where it isn't one or isn't whole, and `ReadFault` only
+/// where the source's count of faults rose.
+pub fn varint_between<S: Source>(
     bytes: &mut Bytes,
     least: u64,
     greatest: u64,
@@ -54,8 +55,9 @@ pub(crate) fn varint_between<S: Source>(
     Ok(number)
 }
 
-/// The flag of the hart: a byte, 0 or 1.
-pub(crate) fn flag<S: Source>(bytes: &mut Bytes, source: &mut S) -> Result<u8, LogFault>
+/// The flag of the hart: a byte, 0 or 1. `Format` comes exactly where it is another byte or isn't there, and `ReadFault`
+/// only where the source's count of faults rose.
+pub fn flag<S: Source>(bytes: &mut Bytes, source: &mut S) -> Result<u8, LogFault>
     requires { IsTrue bytes.old.live }
     ensures reads { IsSome (S.left source.old) → Reads log_met (λ b. b) flag_at
         (over bytes.old (S.left source.old) (S.given source.old))

@@ -19,6 +19,7 @@ mod transfer;
 mod writer;
 
 pub use fault::LogFault;
+pub use fields::{flag, varint_between};
 pub use header::Header;
 pub use item::{Item, What};
 pub use kind::Kind;
@@ -30,4 +31,5 @@ pub use laws::{
 pub use limits::{MARK_DISTANCE, MOST_TEXT, STEP_LIMIT};
 pub use order::Behind;
 pub use reader::LogReader;
+pub use reading::{close, page};
 pub use writer::LogWriter;

@@ -16,7 +16,7 @@ use crate::header::Header;
 use crate::item::Item;
 use crate::kind::Kind;
 use crate::order::Behind;
-use crate::reading::{begin_behind, header, page};
+use crate::reading::{begin_behind, close, header, page};
 use crate::records::{kind, step, what};
 use crate::transfer::TransferBytes;
 use cx_codec::Bytes;
@@ -187,11 +187,6 @@ impl LogReader {
         ensures goes { Goes LogFault.ReadFault self.old.input self.new.input (S.faults source.old) (S.faults source.new)
             result }
     {
-        let start = self.bytes.at();
-        if self.bytes.at_end(source)? {
-            return Ok(());
-        }
-        self.bytes.refuse();
-        Err(LogFault::Format(start))
+        close(&mut self.bytes, source)
     }
 }

@@ -1,7 +1,7 @@
 //! Reading what stands before the records, field by field.
 
-ghost use Rattle.std.specs.Prelude.{◌≡◌, ◌+◌, ◌-◌, ◌<◌, ◌≤◌, ◌^◌, false, length, IfOk, OnOk, IsSome, IsTrue};
-ghost use Rattle.cx_codec.specs.Reads.{Goes, Reads, always, over};
+ghost use Rattle.std.specs.Prelude.{◌≡◌, ◌+◌, ◌-◌, ◌<◌, ◌≤◌, ◌^◌, [], false, length, unwrap_or, IfOk, OnOk, IsSome, IsTrue};
+ghost use Rattle.cx_codec.specs.Reads.{Ends, Goes, Reads, always, over};
 ghost use Rattle.cx_csr.specs.Rules.{AllFit};
 ghost use Rattle.cx_ram.specs.PhysicalMemory.{is_zero};
 ghost use Rattle.cx_log.specs.Engine.{begun_by, page_with};
@@ -9,6 +9,7 @@ ghost use Rattle.cx_log.specs.Fault.{log_met};
 ghost use Rattle.cx_log.specs.Order.{IsAnnounced, IsHeader};
 ghost use Rattle.cx_log.specs.Reading.{announced_at, second_version_at, state_words_at, header_at, page_bytes_at};
 ghost use Rattle.cx_log.specs.Reading.{page_at};
+ghost use Rattle.cx_log.specs.Scan.{close_at};
 
 use crate::fault::LogFault;
 use crate::fields::{flag, state_word, varint_between};
@@ -140,8 +141,10 @@ fn page_bytes<S: Source>(bytes: &mut Bytes, into: &mut [u8], source: &mut S) -> 
     Ok(())
 }
 
-/// A page of RAM of so many pages: its bytes into `into`, and its number, which is `least` or above.
-pub(crate) fn page<S: Source>(
+/// A page of RAM of so many pages: its bytes into `into`, and its number, which is `least` or above. `Format` comes
+/// exactly where its number isn't so or isn't below the number of pages, where its bytes are all zero, and where the
+/// input ends inside it. `ReadFault` comes only where the source's count of faults rose.
+pub fn page<S: Source>(
     bytes: &mut Bytes,
     pages: u32,
     least: u32,
@@ -162,6 +165,24 @@ pub(crate) fn page<S: Source>(
     let number = varint_between(bytes, least as u64, pages as u64 - 1, source)? as u32;
     page_bytes(bytes, into, source)?;
     Ok(number)
+}
+
+/// Sees that nothing follows: the source has nothing left then. `Format` comes exactly where a byte does, and tells its
+/// offset. `ReadFault` comes only where the source's count of faults rose.
+pub fn close<S: Source>(bytes: &mut Bytes, source: &mut S) -> Result<(), LogFault>
+    requires { IsTrue bytes.old.live }
+    ensures ends { IsSome (S.left source.old) → Ends log_met (always tt) tt close_at
+        (over bytes.old (S.left source.old) (S.given source.old))
+        (over bytes.new (S.left source.new) (S.given source.new)) result }
+    ensures spent { IsSome (S.left source.old) → OnOk result (unwrap_or (S.left source.new) [] ≡ []) }
+    ensures goes { Goes LogFault.ReadFault bytes.old bytes.new (S.faults source.old) (S.faults source.new) result }
+{
+    let start = bytes.at();
+    if bytes.at_end(source)? {
+        return Ok(());
+    }
+    bytes.refuse();
+    Err(LogFault::Format(start))
 }
 
 /// Where no page is left, the records begin: they have a limit of their own from here on.

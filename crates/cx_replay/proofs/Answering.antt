@@ -1,5 +1,6 @@
 -- What a call answers, by how the next step was settled and taken.
-use Rattle.std.proofs.Common.{◌≡◌, ◌⊎◌, ℕ, List, [], Option, None, Some}
+use Rattle.std.proofs.Common.{◌≡◌, ◌⊎◌, ℕ, ◌≤◌, Bool, true, false, List, [], Option, None, Some, Result, IfOk}
+use Rattle.std.specs.Bool.{OnTrue}
 use Rattle.std.proofs.Common.{Ok, Err, inl, inr, refl, ap, sym, ◌∙◌, arith}
 use Rattle.std.specs.Option.{option_map}
 use Rattle.cx_hart.specs.HartStep.{hart_step}
@@ -10,10 +11,10 @@ use Rattle.cx_log.specs.Scan.{Scan}
 use Rattle.cx_machine.specs.Due.{Due}
 use Rattle.cx_run.specs.Due.{due_at}
 use Rattle.cx_run.specs.FirstBad.{Format as bad_format, bad_behind}
-use Rattle.cx_replay.specs.Gathering.{FailsOn, Stops}
+use Rattle.cx_replay.specs.Gathering.{FailsOn, IsFormed, Stops}
 use Rattle.cx_replay.specs.Records.{RisesFrom}
-use Rattle.cx_replay.specs.Replaying.{Answers, GaveAll, IsGoodUpTo, IsRead, Progress, Settled, Stands, Starts}
-use Rattle.cx_replay.specs.Replaying.{begun_at_base}
+use Rattle.cx_replay.specs.Replaying.{Answers, Arrives, GaveAll, IsGoodUpTo, IsRead, Progress, Settled, Stands, Starts}
+use Rattle.cx_replay.specs.Replaying.{begun_at_base, told_in}
 use Rattle.cx_replay.specs.declared.fault.ReplayFault.{ReplayFault}
 use Rattle.cx_replay.specs.declared.fault.ReplayFault.TheVariants.{Broken, Format, ReadFault, NoMemory}
 use Rattle.cx_replay.proofs.Standing.{bad_of, broken, passed, taken}
@@ -116,3 +117,19 @@ pub answers_broken : {o : Opened} {whole : Scan} {given : List StepRec} {m : Who
     → hart_step m.split (machine_of m) due ≡ None
     → Answers o whole given next q bytes' Has' due end may cut (Err (Broken q.at))
 answers_broken next q end may cut s settled same stops = let b = broken q s settled same stops in (b.bad, b.at)
+
+-- ---- told in a record
+
+pub told_arrives : (told : StepRec) (r : Result Bool ReplayFault) (o : Opened) (whole : Scan) (given : List StepRec)
+    (m : Whole) (p : Progress) (bytes : List ℕ) (Has : Scan → Type 0) (due : Due) (end : ℕ) (may cut : Type 0)
+    → Arrives (λ rec. told ≡ rec) o whole given m p bytes Has due end may cut r
+    → Answers o whole given m p bytes Has due end may cut (told_in told r)
+told_arrives told (Ok true) o whole given m p bytes Has due end may cut arrives = rw arrives.1.0 arrives.1.1
+told_arrives told (Ok false) o whole given m p bytes Has due end may cut arrives = arrives
+told_arrives told (Err e) o whole given m p bytes Has due end may cut arrives = arrives
+
+pub told_formed : (told : StepRec) (r : Result Bool ReplayFault) → IsFormed (λ rec. told ≡ rec) r
+    → IfOk r (λ gave. OnTrue gave (told.walked ≤ 6))
+told_formed told (Ok true) formed = rw formed.1.0 formed.1.1
+told_formed told (Ok false) formed = tt
+told_formed told (Err e) formed = tt

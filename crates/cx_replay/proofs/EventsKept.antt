@@ -11,13 +11,15 @@ use Rattle.cx_log.specs.Recording.{Event, Mark, Dma, Lines, Value, Recorded}
 use Rattle.cx_log.specs.Records.{Put}
 use Rattle.cx_machine.specs.Transfers.{Transfer}
 use Rattle.cx_run.specs.StepEvents.{transfer_events}
-use Rattle.cx_log.specs.Text.{end_text, record_text, records_text}
+use Rattle.cx_log.specs.Text.{record_text}
 use Rattle.cx_log.specs.declared.item.Item.{Item}
 use Rattle.cx_log.specs.declared.item.What.{What}
 use Rattle.cx_log.specs.declared.item.What.TheVariants as what
 use Rattle.cx_log.specs.declared.limits.TheConstants.{MARK_DISTANCE, STEP_LIMIT}
 use Rattle.cx_log.specs.declared.order.Behind.{Behind}
-use Rattle.cx_replay.specs.Events.{behind_all, bytes_of, event_of, events_text, last_bytes, last_bytes_behind}
+use Rattle.cx_replay.specs.Events.{bytes_of, event_of, last_bytes, last_bytes_behind}
+use Rattle.cx_run.specs.SoFar.{behind_all, events_text}
+use Rattle.cx_run.proofs.TextSoFar.{text_on}
 use Rattle.cx_replay.specs.Events.{recorded_of}
 
 -- an item other than End is a record
@@ -85,16 +87,6 @@ text_more behind (r ∷ xs) x =
     ∙ sym (append_assoc (record_text behind.step r) (events_text (behind_it behind r) xs)
     (record_text (behind_all (behind_it behind r) xs).step x))
 
--- The text of records up to End.
-pub records_by_parts : (behind : Behind) (events : List Recorded) (end : ℕ)
-    → records_text behind.step events end
-    ≡ events_text behind events ++ end_text (behind_all behind events).step end
-records_by_parts behind [] end = refl
-records_by_parts behind (r ∷ events) end =
-    ap (λ t. record_text behind.step r ++ t) (records_by_parts (behind_it behind r) events end)
-    ∙ sym (append_assoc (record_text behind.step r) (events_text (behind_it behind r) events)
-    (end_text (behind_all (behind_it behind r) events).step end))
-
 pub taken : (events : List Recorded) (k : ℕ) (d x : Recorded) → k < length events → slice_index_or events k d ≡ x
     → take (k + 1) events ≡ take k events ++ x ∷ []
 taken events k d x there is =
@@ -110,14 +102,6 @@ pub puts_more : {X Y E : Type 0} {fault : E} {old mid new : Putting} {y : X} {re
 puts_more behind events k d x there is first last =
     puts_along _ _ (sym (ap (events_text behind) (taken events k d x there is) ∙ text_more behind (take k events) x))
     (puts_on (events_text behind (take k events)) _ first last)
-
-text_on : (behind : Behind) (xs ys : List Recorded)
-    → events_text behind (xs ++ ys) ≡ events_text behind xs ++ events_text (behind_all behind xs) ys
-text_on behind [] ys = refl
-text_on behind (r ∷ xs) ys =
-    ap (λ t. record_text behind.step r ++ t) (text_on (behind_it behind r) xs ys)
-    ∙ sym (append_assoc (record_text behind.step r) (events_text (behind_it behind r) xs)
-    (events_text (behind_all (behind_it behind r) xs) ys))
 
 -- an event was refused
 pub puts_stops : {X Y E : Type 0} {fault e : E} {old mid new : Putting} {y : X} (behind : Behind)

@@ -6,6 +6,7 @@ pub mod Turning
 pub mod Giving
 pub mod Settling
 pub mod Steps
+pub mod Tellings
 pub mod Answering
 pub mod Marks
 pub mod PassedMark

@@ -1,10 +1,7 @@
 -- Events that are kept, to be written or read again.
-use Rattle.std.specs.Prelude.{ℕ, List, [], ◌∷◌, ◌++◌}
+use Rattle.std.specs.Prelude.{ℕ, List, [], ◌∷◌}
 use Rattle.cx_log.specs.Item.{dma_event, lines_event, value_event}
-use Rattle.cx_log.specs.Order.{behind_it}
-use Rattle.cx_log.specs.declared.order.Behind.{Behind}
 use Rattle.cx_log.specs.Recording.{Dma, Event, Mark, Recorded}
-use Rattle.cx_log.specs.Text.{record_text}
 use Rattle.cx_log.specs.declared.item.Item.{Item}
 use Rattle.cx_log.specs.declared.item.What.{What}
 use Rattle.cx_log.specs.declared.item.What.TheVariants as what
@@ -18,16 +15,6 @@ event_of bytes _ = Mark
 
 abbrev pub recorded_of : List ℕ → Item → Recorded
 recorded_of bytes item = record { step = item.step; event = event_of bytes item.what }
-
--- what records leave for the next one
-abbrev pub behind_all : Behind → List Recorded → Behind
-behind_all behind [] = behind
-behind_all behind (r ∷ events) = behind_all (behind_it behind r) events
-
--- the text of records behind others
-abbrev pub events_text : Behind → List Recorded → List ℕ
-events_text behind [] = []
-events_text behind (r ∷ events) = record_text behind.step r ++ events_text (behind_it behind r) events
 
 -- the bytes of an event that has some
 abbrev pub bytes_of : Event → List ℕ

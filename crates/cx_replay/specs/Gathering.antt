@@ -1,6 +1,8 @@
 -- How the next step is settled: the parts of a call, and what each says of the records of an input.
-use Rattle.std.specs.Prelude.{◌≡◌, ◌⊎◌, ℕ, ◌<◌, Bool, true, false, List, Option, None, Some, IsTrue, Result, Ok}
+use Rattle.std.specs.Prelude.{◌≡◌, ◌⊎◌, ℕ, ◌<◌, ◌≤◌, Bool, true, false, List, Option, None, Some, IsTrue, Result, Ok}
 use Rattle.std.specs.Prelude.{Err}
+use Rattle.cx_hart.specs.declared.answer.Went.{Went}
+use Rattle.cx_hart.specs.declared.answer.Went.TheVariants as went
 use Rattle.cx_hart.specs.declared.record.StepRec.{StepRec}
 use Rattle.cx_log.specs.Scan.{Scan, bad_field}
 use Rattle.cx_machine.specs.Due.{Due, IsDue}
@@ -80,12 +82,25 @@ SettlesOn whole p due bytes Has end may cut (Err e) = FailsOn whole p.at end may
 
 -- ---- the step itself
 
--- It was carried out, which left this machine and this record; or it can't be.
-abbrev pub IsCarriedOut : Option (Stepped StepRec) → StepRec → MachineState → Bool → Type 0
-IsCarriedOut outcome rec machine true = outcome ≡ Some (record { machine = machine; rec = rec })
-IsCarriedOut outcome rec machine false = outcome ≡ None
+abbrev pub is_stepped : Went → Bool
+is_stepped went.Stepped = true
+is_stepped (went.NeedsValue what) = false
+is_stepped went.ValueLeft = false
+
+-- It was carried out, which left this machine, and this is known of its record; or it can't be.
+abbrev pub IsCarriedOut : Option (Stepped StepRec) → (Known : StepRec → Type 0) → MachineState → Bool → Type 0
+IsCarriedOut outcome Known machine true =
+    (rec : StepRec) × ((outcome ≡ Some (record { machine = machine; rec = rec })) × Known rec)
+IsCarriedOut outcome Known machine false = outcome ≡ None
 
 -- where memory was refused, it wasn't tried
-abbrev pub TakesStep : {E : Type 0} → Option (Stepped StepRec) → StepRec → MachineState → Result Bool E → Type 0
-TakesStep outcome rec machine (Ok carried) = IsCarriedOut outcome rec machine carried
-TakesStep outcome rec machine (Err e) = Unit {0}
+abbrev pub TakesStep : {E : Type 0} → Option (Stepped StepRec) → (Known : StepRec → Type 0) → MachineState
+    → Result Bool E → Type 0
+TakesStep outcome Known machine (Ok carried) = IsCarriedOut outcome Known machine carried
+TakesStep outcome Known machine (Err e) = Unit {0}
+
+-- of a record of which this is known, the entries of page tables are as many as a step can read
+abbrev pub IsFormed : (Known : StepRec → Type 0) → Result Bool ReplayFault → Type 0
+IsFormed Known (Ok true) = (rec : StepRec) × (Known rec × (rec.walked ≤ 6))
+IsFormed Known (Ok false) = Unit {0}
+IsFormed Known (Err e) = Unit {0}

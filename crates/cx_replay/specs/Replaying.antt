@@ -148,6 +148,20 @@ told_in rec (Ok true) = Ok (Some rec)
 told_in rec (Ok false) = Ok None
 told_in rec (Err e) = Err e
 
+-- The same where the record of the step, of which this is known, isn't handed out.
+abbrev pub Arrives : (Known : StepRec → Type 0) → Opened → Scan → List StepRec → Whole → Progress → List ℕ
+    → (Has : Scan → Type 0) → Due → ℕ → (may cut : Type 0) → Result Bool ReplayFault → Type 0
+Arrives Known o whole given m p bytes Has due end may cut (Ok true) =
+    (rec : StepRec) × (Known rec × Answers o whole given m p bytes Has due end may cut (Ok (Some rec)))
+Arrives Known o whole given m p bytes Has due end may cut (Ok false) =
+    Answers o whole given m p bytes Has due end may cut (Ok None)
+Arrives Known o whole given m p bytes Has due end may cut (Err e) =
+    Answers o whole given m p bytes Has due end may cut (Err e)
+
+-- nothing is
+abbrev pub Unknown : StepRec → Type 0
+Unknown rec = Unit {0}
+
 -- the step that comes next, once one was given or none
 abbrev pub StepsOn : ℕ → ℕ → Result Bool ReplayFault → Type 0
 StepsOn before now (Ok true) = now ≡ before + 1

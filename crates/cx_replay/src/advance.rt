@@ -1,6 +1,6 @@
 //! The next step of a replay.
 
-ghost use Rattle.std.specs.Bool.{OnFalse, OnTrue};
+ghost use Rattle.std.specs.Bool.{OnFalse};
 ghost use Rattle.std.specs.Prelude.{◌≡◌, ◌≤◌, ℕ, List, length, IfOk, IsSome, OnOk};
 ghost use Rattle.cx_codec.specs.Reads.{Begins};
 ghost use Rattle.cx_hart.specs.declared.record.StepRec.{StepRec};
@@ -8,8 +8,9 @@ ghost use Rattle.cx_io.specs.Cause.{HasCause};
 ghost use Rattle.cx_log.specs.Reading.{Opened};
 ghost use Rattle.cx_log.specs.Scan.{Scan};
 ghost use Rattle.cx_map.specs.Map.{size_of_pages};
+ghost use Rattle.cx_replay.specs.Gathering.{IsFormed};
 ghost use Rattle.cx_replay.specs.Records.{GaveMore, MayBeWhole};
-ghost use Rattle.cx_replay.specs.Replaying.{Answers, IsSound, Stands, StepsOn, told_in};
+ghost use Rattle.cx_replay.specs.Replaying.{Arrives, IsSound, Stands, StepsOn};
 
 use crate::due::DueRecords;
 use crate::fault::ReplayFault;
@@ -17,16 +18,17 @@ use crate::gather::settle_next;
 use crate::progress::Progress;
 use crate::records::Records;
 use crate::step::take_step;
-use cx_hart::{Machine, StepRec};
+use crate::told::Told;
+use cx_hart::Machine;
 use cx_io::Source;
 
-/// Settles the next step and takes it, and tells it in the record; false where the recording was read to its end.
-pub(crate) fn advance<R: Records, S: Source>(
+/// Settles the next step and takes it, and tells it; false where the recording was read to its end.
+pub(crate) fn advance<R: Records, S: Source, W: Told>(
     machine: &mut Machine,
     progress: &mut Progress,
     due: &mut DueRecords,
     records: &mut R,
-    rec: &mut StepRec,
+    told: &mut W,
     source: &mut S,
 ) -> Result<bool, ReplayFault>
     requires sound { IsSound progress.old (R.seen records.old) }
@@ -37,14 +39,13 @@ pub(crate) fn advance<R: Records, S: Source>(
         → (end : ℕ) (o : Opened) (whole : Scan) (given : List StepRec)
         → Stands o whole given machine.old progress.old (R.seen records.old).bytes
         (R.has records.old (S.given source.old) input end)
-        → Answers o whole given machine.new progress.new (R.seen records.new).bytes
+        → Arrives (W.knows told.new) o whole given machine.new progress.new (R.seen records.new).bytes
         (R.has records.new (S.given source.new) input end) due.new end
-        (MayBeWhole (S.left source.new) (S.given source.new) input) (input ≡ S.given source.new)
-        (told_in rec.new result) }
+        (MayBeWhole (S.left source.new) (S.given source.new) input) (input ≡ S.given source.new) result }
     ensures sound { OnOk result (IsSound progress.new (R.seen records.new)) }
     ensures spent { IsSome (S.left source.old) → IfOk result (λ gave. OnFalse gave (R.leaves (S.left source.new))) }
     ensures at { StepsOn progress.old.at progress.new.at result }
-    ensures formed { IfOk result (λ gave. OnTrue gave (rec.new.walked ≤ 6)) }
+    ensures formed { IsFormed (W.knows told.new) result }
     ensures size { length machine.new.memory ≡ length machine.old.memory }
     ensures split { machine.new.split ≡ machine.old.split }
     ensures saved { machine.new.saved ≡ machine.old.saved }
@@ -54,7 +55,7 @@ pub(crate) fn advance<R: Records, S: Source>(
     if !settle_next(progress, due, records, source)? {
         return Ok(false);
     }
-    if !take_step(machine, due, rec)? {
+    if !take_step(machine, due, told)? {
         return Err(ReplayFault::Broken(progress.at));
     }
     progress.pass();

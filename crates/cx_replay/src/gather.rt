@@ -148,6 +148,7 @@ fn take_waiting<R: Records>(
 
 /// Settles the next step, and tells what is due to it; false where there is none: the recording was read to its end,
 /// and nothing follows it.
+#[inline(always)]
 pub(crate) fn settle_next<R: Records, S: Source>(
     progress: &mut Progress,
     due: &mut DueRecords,

@@ -9,7 +9,8 @@ ghost use Rattle.cx_log.specs.Recording.{Recorded};
 ghost use Rattle.cx_log.specs.Records.{Put};
 ghost use Rattle.cx_log.specs.Text.{record_text};
 ghost use Rattle.cx_run.specs.StepEvents.{line_events, mark_events, step_events, transfer_events, value_events};
-ghost use Rattle.cx_replay.specs.Events.{behind_all, bytes_of, events_text, last_bytes, recorded_of};
+ghost use Rattle.cx_replay.specs.Events.{bytes_of, last_bytes, recorded_of};
+ghost use Rattle.cx_run.specs.SoFar.{behind_all, events_text};
 
 use crate::due::DueRecords;
 use cx_codec::OutFault;

@@ -13,6 +13,7 @@ mod progress;
 mod records;
 mod replay;
 mod step;
+mod told;
 
 pub use due::DueRecords;
 pub use fault::ReplayFault;

@@ -21,7 +21,7 @@ ghost use Rattle.cx_map.specs.Map.{size_of_pages};
 ghost use Rattle.cx_replay.specs.KeptRecords.{HasKept, kept_from, scan_of};
 ghost use Rattle.cx_replay.specs.LogRecords.{HasAhead, IsBegun, place_of};
 ghost use Rattle.cx_replay.specs.Records.{GaveMore, MayBeWhole, RisesFrom};
-ghost use Rattle.cx_replay.specs.Replaying.{Answers, Stands, Starts, StepsOn, begun_at_base, mark_before, told_in};
+ghost use Rattle.cx_replay.specs.Replaying.{Answers, Arrives, Stands, Starts, StepsOn, begun_at_base, mark_before, told_in, Unknown};
 
 use crate::advance::advance;
 use crate::due::DueRecords;
@@ -30,6 +30,7 @@ use crate::kept::KeptEvents;
 use crate::kept_records::KeptReader;
 use crate::progress::Progress;
 use crate::records::Records;
+use crate::told::Nobody;
 use cx_hart::{Machine, Moment, StepRec};
 use cx_io::{NoMemory, Source};
 use cx_log::{Behind, Header, LogReader};
@@ -215,6 +216,7 @@ impl<R: Records> Replay<R> {
     /// ended. `Format` and `Broken` come exactly by the first bad place of the input, once all steps were given that
     /// its records settle before. `ReadFault` comes only where the source's count of faults rose; what the source gave
     /// settles no step that wasn't given. `NoMemory` is free.
+    #[tactic(auto, using(crate::proofs::Answering::told_formed))]
     pub fn next_into<S: Source>(
         &mut self,
         rec: &mut StepRec,
@@ -247,6 +249,40 @@ impl<R: Records> Replay<R> {
             &mut self.due,
             &mut self.records,
             rec,
+            source,
+        );
+        self.live = told.is_ok();
+        told
+    }
+
+    /// The same for whoever only has to arrive: the step is told to nobody.
+    pub fn next_untold<S: Source>(&mut self, source: &mut S) -> Result<bool, ReplayFault>
+        requires { IsTrue self.old.live }
+        ensures follows { IsSome (S.left source.old) → GaveMore (S.left source.old) (S.given source.old)
+            (S.left source.new) (S.given source.new) }
+        ensures answers { IsSome (S.left source.old) → (input : List ℕ) → Begins (S.given source.new) input
+            → (end : ℕ) (o : Opened) (whole : Scan) (given : List StepRec)
+            → Stands o whole given self.old.machine self.old.progress (R.seen self.old.records).bytes
+            (R.has self.old.records (S.given source.old) input end)
+            → Arrives Unknown o whole given self.new.machine self.new.progress (R.seen self.new.records).bytes
+            (R.has self.new.records (S.given source.new) input end)
+            self.new.due end (MayBeWhole (S.left source.new) (S.given source.new) input)
+            (input ≡ S.given source.new) result }
+        ensures live { self.new.live ≡ is_ok result }
+        ensures spent { IsSome (S.left source.old)
+            → IfOk result (λ gave. OnFalse gave (R.leaves (S.left source.new))) }
+        ensures at { StepsOn self.old.progress.at self.new.progress.at result }
+        ensures split { self.new.machine.split ≡ self.old.machine.split }
+        ensures saved { self.new.machine.saved ≡ self.old.machine.saved }
+        ensures pages { (R.seen self.new.records).pages ≡ (R.seen self.old.records).pages }
+        ensures cause { HasCause ReplayFault.ReadFault (S.faults source.old) (S.faults source.new) result }
+    {
+        let told = advance(
+            &mut self.machine,
+            &mut self.progress,
+            &mut self.due,
+            &mut self.records,
+            &mut Nobody,
             source,
         );
         self.live = told.is_ok();

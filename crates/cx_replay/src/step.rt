@@ -10,7 +10,8 @@ ghost use Rattle.cx_map.specs.Map.{size_of_pages};
 ghost use Rattle.cx_replay.specs.Gathering.{IsCarriedOut, TakesStep};
 
 use crate::due::{DueRecords, Moved};
-use cx_hart::{Due, Machine, NoMemory, StepRec, Steps, Went};
+use crate::told::Told;
+use cx_hart::{Due, Machine, NoMemory, Steps};
 use std::marker::Brand;
 use std::sync::ledger::{Blank, Ledger};
 
@@ -28,6 +29,7 @@ fn move_one(machine: &mut Machine, moved: &Moved) -> Result<(), NoMemory>
 }
 
 // Writes the bytes of all devices to RAM, in order.
+#[inline(always)]
 fn move_all(machine: &mut Machine, moves: &[Moved]) -> Result<(), NoMemory>
     requires { AreTransfers (length machine.old.memory) moves.now }
     ensures machine { OnOk result (machine_of machine.new ≡ after_transfers moves.now (machine_of machine.old)) }
@@ -41,36 +43,37 @@ fn move_all(machine: &mut Machine, moves: &[Moved]) -> Result<(), NoMemory>
     Ok(())
 }
 
-// Takes a step, once the bytes of devices were written, and answers whether it was carried out.
-#[tactic(auto, unfolding(cx_hart::specs::HartStep::hart_step))]
-fn turn_counted<L: Ledger>(machine: &mut Machine, due: Due, rec: &mut StepRec, blank: Blank) -> bool
+// Takes a step and counts it, once the bytes of devices were written, and answers whether it was carried out.
+fn turn_counted<L: Ledger, W: Told>(
+    machine: &mut Machine,
+    due: Due,
+    told: &mut W,
+    blank: Blank,
+) -> bool
     requires room { 2 ≤ machine.old.spare }
     requires lines { IfSome due.lines AreLines }
     requires name { blank.name ≡ L.name }
     requires parts { blank.parts ≡ L.parts }
     requires one { 0 < blank.parts }
-    ensures step { IsCarriedOut (hart_step machine.old.split (machine_of machine.old) (without_transfers due)) rec.new
-        (machine_of machine.new) result }
+    ensures step { IsCarriedOut (hart_step machine.old.split (machine_of machine.old) (without_transfers due))
+        (W.knows told.new) (machine_of machine.new) result }
     ensures size { length machine.new.memory ≡ length machine.old.memory }
     ensures split { machine.new.split ≡ machine.old.split }
     ensures saved { machine.new.saved ≡ machine.old.saved }
 {
     let mut steps: Steps<L> = Steps::none(blank);
-    match machine.step_into(due, &mut steps, rec) {
-        Went::Stepped => true,
-        Went::NeedsValue(_) | Went::ValueLeft => false,
-    }
+    told.take(machine, due, &mut steps)
 }
 
-/// Takes a step to which this is due, and tells it in the record; false where it isn't carried out.
-pub(crate) fn take_step(
+/// Takes a step to which this is due, and tells it; false where it isn't carried out.
+pub(crate) fn take_step<W: Told>(
     machine: &mut Machine,
     due: &DueRecords,
-    rec: &mut StepRec,
+    told: &mut W,
 ) -> Result<bool, NoMemory>
     requires transfers { AreTransfers (length machine.old.memory) due.now.transfers }
     requires lines { IfSome due.now.lines AreLines }
-    ensures step { TakesStep (hart_step machine.old.split (machine_of machine.old) due.now) rec.new
+    ensures step { TakesStep (hart_step machine.old.split (machine_of machine.old) due.now) (W.knows told.new)
         (machine_of machine.new) result }
     ensures size { length machine.new.memory ≡ length machine.old.memory }
     ensures split { machine.new.split ≡ machine.old.split }
@@ -82,5 +85,5 @@ pub(crate) fn take_step(
         lines: due.lines(),
         value: due.value(),
     };
-    Ok(turn_counted::<Brand>(machine, rest, rec, Blank::new(1)))
+    Ok(turn_counted::<Brand, W>(machine, rest, told, Blank::new(1)))
 }

@@ -17,3 +17,9 @@ pub mod GoodInputs
 pub mod FirstBreak
 pub mod StepEvents
 pub mod Again
+pub mod TapedEvents
+pub mod TapedRuns
+pub mod TapedOrder
+pub mod TapedAccepted
+pub mod TapedSizes
+pub mod TextSoFar

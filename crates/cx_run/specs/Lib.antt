@@ -5,3 +5,6 @@ pub mod Window
 pub mod Alone
 pub mod FirstBad
 pub mod StepEvents
+pub mod Driven
+pub mod Taping
+pub mod SoFar

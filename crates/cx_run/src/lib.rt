@@ -6,6 +6,7 @@
 #![tactic(auto)]
 
 mod laws;
+mod taping;
 
 pub use laws::{
     a_window_runs_again, events_of_a_step_are_due, first_break_is_known, inputs_without_bad_place,
@@ -13,4 +14,8 @@ pub use laws::{
     pages_are_marked_step_by_step, run_stops_at_its_first_gap, runs_begin_with_shorter_runs,
     runs_know_no_later_event, window_is_accepted, window_is_there_once, window_of_window,
     window_runs_alone, windows_are_shorter,
+};
+pub use taping::{
+    a_taped_run_is_accepted, a_taped_run_runs_again, records_of_a_step_follow,
+    the_text_so_far_begins_the_whole,
 };

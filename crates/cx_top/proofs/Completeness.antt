@@ -5,15 +5,16 @@ use Rattle.cx_top.specs.declared.status.Status.{Status}
 use Rattle.cx_top.specs.declared.status.Status.TheVariants as status
 
 pub good_is_done : (d : Doing) (bytes : List ℕ) (whole cut : Type 0) (answer : Status) → whole
-    → d.refusal bytes ≡ None → answer ≢ status.ReadFault → answer ≢ status.WriteFault → Answers d bytes whole cut answer
+    → d.refusal bytes ≡ None → answer ≢ status.ReadFault → answer ≢ status.WriteFault → answer ≢ status.WorldFault
+    → Answers d bytes whole cut answer
     → (answer ≡ status.Done) ⊎ (answer ≡ status.NoMemory)
-good_is_done d bytes whole cut status.Done h good read write answers = inl refl
-good_is_done d bytes whole cut status.NoMemory h good read write answers = inr refl
-good_is_done d bytes whole cut status.ReadFault h good read write answers = absurd (read refl)
-good_is_done d bytes whole cut status.WriteFault h good read write answers = absurd (write refl)
-good_is_done d bytes whole cut status.NotThere h good read write answers = let never = sym good ∙ answers h in cc
-good_is_done d bytes whole cut (status.Format o) h good read write answers = let never = sym good ∙ answers h in cc
-good_is_done d bytes whole cut (status.Broken n) h good read write answers = let never = sym good ∙ answers in cc
-good_is_done d bytes whole cut (status.NotBuilt n) h good read write answers = let never = sym good ∙ answers in cc
-good_is_done d bytes whole cut status.Usage h good read write answers = let never = sym good ∙ answers in cc
-good_is_done d bytes whole cut status.WorldFault h good read write answers = absurd answers
+good_is_done d bytes whole cut status.Done h good read write world answers = inl refl
+good_is_done d bytes whole cut status.NoMemory h good read write world answers = inr refl
+good_is_done d bytes whole cut status.ReadFault h good read write world answers = absurd (read refl)
+good_is_done d bytes whole cut status.WriteFault h good read write world answers = absurd (write refl)
+good_is_done d bytes whole cut status.NotThere h good read write world answers = let never = sym good ∙ answers h in cc
+good_is_done d bytes whole cut (status.Format o) h good read write world answers = let never = sym good ∙ answers h in cc
+good_is_done d bytes whole cut (status.Broken n) h good read write world answers = let never = sym good ∙ answers in cc
+good_is_done d bytes whole cut (status.NotBuilt n) h good read write world answers = let never = sym good ∙ answers in cc
+good_is_done d bytes whole cut status.Usage h good read write world answers = let never = sym good ∙ answers in cc
+good_is_done d bytes whole cut status.WorldFault h good read write world answers = absurd (world refl)

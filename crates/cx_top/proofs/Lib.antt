@@ -1,6 +1,5 @@
 pub mod Composed
 pub mod Filling
-pub mod Refusals
 pub mod Consuming
 pub mod Judging
 pub mod Doings
@@ -16,3 +15,8 @@ pub mod Answering
 pub mod LinesParts
 pub mod Upgraded
 pub mod Completeness
+pub mod Nested
+pub mod Carrying
+pub mod Seeding
+pub mod Recordings
+pub mod StepCounts

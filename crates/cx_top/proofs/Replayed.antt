@@ -45,7 +45,7 @@ replays_alike bytes may cut base held r same does = by_result r does
     by_result (Err status.ReadFault) does = (λ h. rw same (does.0 h), does.1)
     by_result (Err status.WriteFault) does = (λ early h. same ∙ does.0 early h, front does.1)
     by_result (Err status.NoMemory) does = (tt, front does.1)
-    by_result (Err status.WorldFault) does = absurd does.0
+    by_result (Err status.WorldFault) does = (λ h. same ∙ does.0 h, does.1)
 
 pub replays_recording : (bytes : List ℕ) (mid : Place) (may cut : Type 0) (base held : Option (List ℕ))
     (r : Result (Unit {0}) Status) → kind_at (start_of bytes) ≡ Ok (kind.Recording, mid)

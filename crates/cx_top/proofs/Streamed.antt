@@ -125,7 +125,7 @@ refusal_is_early (status.Broken n) is j = j
 refusal_is_early status.NotThere is j = is
 refusal_is_early status.ReadFault is j = j
 refusal_is_early status.WriteFault is j = cc
-refusal_is_early status.WorldFault is j = j
+refusal_is_early status.WorldFault is j = is
 refusal_is_early status.NoMemory is j = j
 refusal_is_early (status.NotBuilt n) is j = j
 

@@ -29,21 +29,16 @@ use Rattle.cx_run.proofs.LaterEvents.{none_below_less, order_is_above}
 use Rattle.cx_run.proofs.StandingLines.{order_rises}
 use Rattle.cx_run.proofs.StepEvents.{has_mark-later, step_more}
 use Rattle.cx_run.proofs.WindowOrder.{kept, order_ends, out_before, out_behind}
-use Rattle.cx_replay.specs.Events.{behind_all, events_text}
-use Rattle.cx_replay.proofs.EventsKept.{records_by_parts}
-use Rattle.cx_top.specs.Growing.{text_on}
+use Rattle.cx_run.specs.SoFar.{behind_all, events_text}
+use Rattle.cx_run.proofs.TextSoFar.{behind_on, records_by_parts, text_on}
 use Rattle.cx_top.specs.Streaming.{FinishesOn, IsAll, IsOrdered, TellsOn, Told}
-use Rattle.cx_top.specs.Upgrade.{HasUpgraded, PutAll, PutsEvents, first_events, front_text, start_of_records}
+use Rattle.cx_record.specs.Putting.{PutAll, PutsEvents}
+use Rattle.cx_top.specs.Upgrade.{HasUpgraded, first_events, front_text, start_of_records}
 use Rattle.cx_top.specs.Upgrade.{upgrade_full}
 use Rattle.cx_top.specs.Upgrade.{upgrade_text, upgraded}
 use Rattle.cx_top.proofs.Streams.{blocks_front}
 
 -- ---- one list of records behind another
-
-behind_on : (behind : Behind) (xs ys : List Recorded)
-    → behind_all behind (xs ++ ys) ≡ behind_all (behind_all behind xs) ys
-behind_on behind [] ys = refl
-behind_on behind (r ∷ xs) ys = behind_on (behind_it behind r) xs ys
 
 pub put_none : (w : Writing) (held : Option (List ℕ)) → IsTrue w.output.live → PutAll [] w held w held
 put_none w held live = record {
@@ -51,47 +46,6 @@ put_none w held live = record {
   behind = refl;
   header = refl;
   live = live;
-}
-
-pub events_on : {old mid new : Writing} {held held' held'' : Option (List ℕ)} {result : Result (Unit {0}) OutFault}
-    (xs ys : List Recorded) → PutAll xs old held mid held' → PutsEvents ys mid held' new held'' result
-    → PutsEvents (xs ++ ys) old held new held'' result
-events_on {old} {mid} {new} {held} {held'} {held''} {result} xs ys first next = by_result result next
-  where
-    text : (put : List ℕ) → (put ++ events_text old.behind xs) ++ events_text mid.behind ys
-        ≡ put ++ events_text old.behind (xs ++ ys)
-    text put = append_assoc put (events_text old.behind xs) (events_text mid.behind ys)
-        ∙ ap (λ (t : List ℕ). put ++ t) (ap (λ (b : Behind). events_text old.behind xs ++ events_text b ys) first.behind
-        ∙ sym (text_on old.behind xs ys))
-
-    by_result : (r : Result (Unit {0}) OutFault) → PutsEvents ys mid held' new held'' r
-        → PutsEvents (xs ++ ys) old held new held'' r
-    by_result (Ok u) next = record {
-      all = record {
-        stands = λ base put stood. subst (λ (t : List ℕ). StandsFor base t new.output.bytes held'') (text put)
-            (next.all.stands base (put ++ events_text old.behind xs) (first.stands base put stood));
-        behind = next.all.behind ∙ ap (λ (b : Behind). behind_all b ys) first.behind
-            ∙ sym (behind_on old.behind xs ys);
-        header = next.all.header ∙ first.header;
-        live = next.all.live;
-      };
-      front = tt;
-    }
-    by_result (Err e) next = record {
-      all = tt;
-      front = λ base put stood. subst (λ (t : List ℕ). HasFront base t held'') (text put)
-          (next.front base (put ++ events_text old.behind xs) (first.stands base put stood));
-    }
-
-pub events_cut : {old new : Writing} {held held' : Option (List ℕ)} {e : OutFault} (xs ys : List Recorded)
-    → PutsEvents xs old held new held' (Err e) → PutsEvents (xs ++ ys) old held new held' (Err e)
-events_cut {old} {held' = held'} xs ys first = record {
-  all = tt;
-  front = λ base put stood. subst (λ (t : List ℕ). HasFront base t held')
-      (append_assoc put (events_text old.behind xs) (events_text (behind_all old.behind xs) ys)
-      ∙ ap (λ (t : List ℕ). put ++ t) (sym (text_on old.behind xs ys)))
-      (front_longer base held' (put ++ events_text old.behind xs) (events_text (behind_all old.behind xs) ys)
-      (first.front base put stood));
 }
 
 -- a record that isn't put, since it may not stand there

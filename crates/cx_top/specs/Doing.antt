@@ -14,14 +14,16 @@ use Rattle.cx_top.specs.declared.status.Status.{Status}
 use Rattle.cx_top.specs.declared.status.Status.TheVariants as status
 
 -- Whether it reads its source, and whether it writes before all of the input is judged. Of an input: the answer if it
--- is refused, and none if it isn't; what is written of it where all is done; and of an input that is refused, the text
--- of what is settled in it.
+-- is refused, and none if it isn't; what is written of it where all is done; of an input that is refused, the text of
+-- what is settled in it; and of one that isn't, the text of what the world's answers have settled where the world
+-- fails.
 pub record Doing : Type 0 where
   pub reads : Bool
   pub streams : Bool
   pub refusal : List ℕ → Option Status
   pub full : List ℕ → List ℕ
   pub settled : List ℕ → List ℕ
+  pub cut_off : List ℕ → List ℕ
 
 -- ---- answers
 
@@ -44,7 +46,7 @@ Answers d bytes whole cut status.Usage = d.refusal bytes ≡ Some status.Usage
 Answers d bytes whole cut status.ReadFault = cut → IsGoodSoFar (length bytes) (d.refusal bytes)
 Answers d bytes whole cut status.WriteFault = d.streams ≡ false → whole → d.refusal bytes ≡ None
 Answers d bytes whole cut status.NoMemory = Unit {0}
-Answers d bytes whole cut status.WorldFault = ⊥
+Answers d bytes whole cut status.WorldFault = whole → d.refusal bytes ≡ None
 
 -- ---- the sink
 
@@ -54,12 +56,14 @@ LeavesFront d bytes whole held now =
     HasFront held (d.settled bytes) now ⊎ (whole → (d.refusal bytes ≡ None) × HasFront held (d.full bytes) now)
 
 -- What a sink holds that held the first of the two lists: all on Done; the whole blocks of what is settled where the
--- input is bad or couldn't be read on; a front where the sink or memory gave out; else what it held.
+-- input is bad or couldn't be read on, or where the world failed; a front where the sink or memory gave out; else what
+-- it held.
 abbrev pub Leaves : Doing → List ℕ → (whole cut : Type 0) → Status → Option (List ℕ) → Option (List ℕ) → Type 0
 Leaves d bytes whole cut status.Done held now = whole → Appends held now (d.full bytes)
 Leaves d bytes whole cut (status.Format o) held now = whole → Appends held now (whole_blocks (d.settled bytes))
 Leaves d bytes whole cut (status.Broken n) held now = Appends held now (whole_blocks (d.settled bytes))
 Leaves d bytes whole cut status.ReadFault held now = cut → Appends held now (whole_blocks (d.settled bytes))
+Leaves d bytes whole cut status.WorldFault held now = whole → Appends held now (whole_blocks (d.cut_off bytes))
 Leaves d bytes whole cut status.WriteFault held now = LeavesFront d bytes whole held now
 Leaves d bytes whole cut status.NoMemory held now = LeavesFront d bytes whole held now
 Leaves d bytes whole cut _ held now = now ≡ held
@@ -68,6 +72,7 @@ Leaves d bytes whole cut _ held now = now ≡ held
 abbrev pub IsUntouched : (streams : Bool) → Status → Type 0
 IsUntouched streams status.Done = ⊥
 IsUntouched streams status.WriteFault = ⊥
+IsUntouched streams status.WorldFault = ⊥
 IsUntouched streams status.NoMemory = ⊥
 IsUntouched streams (status.Format o) = streams ≡ false
 IsUntouched streams (status.Broken n) = streams ≡ false
@@ -92,6 +97,7 @@ abbrev pub Judges : (streams : Bool) → Status → Type 0
 Judges streams status.Done = Unit {0}
 Judges streams status.NotThere = Unit {0}
 Judges streams status.WriteFault = streams ≡ false
+Judges streams status.WorldFault = streams ≡ false
 Judges streams _ = ⊥
 
 -- What a call does to a source that tells what it has left: the bytes given and those left stay one input, of which it
@@ -146,4 +152,5 @@ of_recording streams there full settled = record {
   refusal = λ bytes. judged (first_bad hart_step bytes) (there_of there bytes);
   full = text_of full;
   settled = text_of settled;
+  cut_off = λ bytes. [];
 }

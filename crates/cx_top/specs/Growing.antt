@@ -4,10 +4,9 @@ use Rattle.std.proofs.Common.{append_assoc, arith, ap, length-append, sym, ◌�
 use Rattle.std.proofs.lemmas.List.{append-nil}
 use Rattle.cx_codec.specs.Reads.{Begins}
 use Rattle.cx_hart.specs.declared.record.StepRec.{StepRec}
-use Rattle.cx_log.specs.Order.{InOrder, behind_it}
+use Rattle.cx_log.specs.Order.{InOrder}
 use Rattle.cx_log.specs.declared.order.Behind.{Behind}
 use Rattle.cx_log.specs.Recording.{Recorded}
-use Rattle.cx_log.specs.Text.{record_text}
 use Rattle.cx_log.specs.Reading.{Opened}
 use Rattle.cx_log.specs.Scan.{Scan}
 use Rattle.cx_print.specs.Lines.{step_line}
@@ -15,7 +14,8 @@ use Rattle.cx_run.specs.Due.{due_at}
 use Rattle.cx_run.specs.StepEvents.{has_mark, step_events}
 use Rattle.cx_run.specs.Window.{events_between}
 use Rattle.cx_run.proofs.StepEvents.{step_more}
-use Rattle.cx_replay.specs.Events.{behind_all, events_text}
+use Rattle.cx_run.specs.SoFar.{behind_all, events_text}
+use Rattle.cx_run.proofs.TextSoFar.{text_on}
 use Rattle.cx_top.specs.Streaming.{IsOrdered}
 use Rattle.cx_top.specs.Upgrade.{first_events, front_text, start_of_records, upgrade_text}
 use Rattle.cx_top.specs.Trace.{line_text, lines_from}
@@ -43,14 +43,6 @@ lines_grow o s xs ys ordered = record {
 }
 
 -- ---- records
-
-pub text_on : (behind : Behind) (xs ys : List Recorded)
-    → events_text behind (xs ++ ys) ≡ events_text behind xs ++ events_text (behind_all behind xs) ys
-text_on behind [] ys = refl
-text_on behind (r ∷ xs) ys =
-    ap (λ t. record_text behind.step r ++ t) (text_on (behind_it behind r) xs ys)
-    ∙ sym (append_assoc (record_text behind.step r) (events_text (behind_it behind r) xs)
-    (events_text (behind_all (behind_it behind r) xs) ys))
 
 -- the records of so many steps more
 steps_more : (pages a n count : ℕ) (behind : Behind) (events : List Recorded) (end : ℕ)

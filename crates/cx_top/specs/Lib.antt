@@ -8,4 +8,5 @@ pub mod Trace
 pub mod TraceWindow
 pub mod Upgrade
 pub mod Growing
+pub mod Record
 pub mod Call

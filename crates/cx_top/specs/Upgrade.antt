@@ -1,7 +1,5 @@
 -- What `upgrade` does: the recording of its input, in version 2.
-use Rattle.std.specs.Prelude.{◌≡◌, ℕ, ◌+◌, ◌≤◌, List, ◌++◌, length, Option, None, IsTrue, OnErr, OnOk, Result}
-use Rattle.cx_codec.specs.Blocks.{HasFront, StandsFor}
-use Rattle.cx_codec.specs.declared.fault.OutFault.{OutFault}
+use Rattle.std.specs.Prelude.{◌≡◌, ℕ, ◌+◌, ◌≤◌, List, ◌++◌, length, None}
 use Rattle.cx_hart.specs.HartStep.{hart_step}
 use Rattle.cx_hart.specs.declared.record.StepRec.{StepRec}
 use Rattle.cx_log.specs.Engine.{Writing}
@@ -17,7 +15,7 @@ use Rattle.cx_map.specs.declared.TheConstants.{MOST_PAGES}
 use Rattle.cx_run.specs.FirstBad.{first_bad}
 use Rattle.cx_run.specs.Run.{Accepts, run_of}
 use Rattle.cx_run.specs.Window.{events_between}
-use Rattle.cx_replay.specs.Events.{behind_all, events_text}
+use Rattle.cx_run.specs.SoFar.{behind_all, events_text}
 use Rattle.cx_top.specs.Doing.{Doing}
 use Rattle.cx_top.specs.Streaming.{streamed}
 use Rattle.cx_top.specs.Window.{IsTextOf}
@@ -76,19 +74,3 @@ pub record IsUpgrading (w : Writing) (pages : ℕ) (behind : Behind) : Type 0 wh
 pub record HasUpgraded (o : Opened) (s : Scan) (given : List StepRec) (w : Writing) : Type 0 where
   pub pages : w.header.pages ≡ o.header.pages
   pub behind : w.behind ≡ behind_all (start_of_records o) (first_events o s (length given))
-
--- these records were put
-pub record PutAll (events : List Recorded) (old : Writing) (held : Option (List ℕ)) (new : Writing)
-    (held_now : Option (List ℕ)) : Type 0 where
-  pub stands : (base : Option (List ℕ)) (put : List ℕ) → StandsFor base put old.output.bytes held
-      → StandsFor base (put ++ events_text old.behind events) new.output.bytes held_now
-  pub behind : new.behind ≡ behind_all old.behind events
-  pub header : new.header ≡ old.header
-  pub live : IsTrue new.output.live
-
--- or a front of them
-pub record PutsEvents (events : List Recorded) (old : Writing) (held : Option (List ℕ)) (new : Writing)
-    (held_now : Option (List ℕ)) (result : Result (Unit {0}) OutFault) : Type 0 where
-  pub all : OnOk result (PutAll events old held new held_now)
-  pub front : OnErr result ((base : Option (List ℕ)) (put : List ℕ) → StandsFor base put old.output.bytes held
-      → HasFront base (put ++ events_text old.behind events) held_now)

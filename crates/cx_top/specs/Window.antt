@@ -1,5 +1,6 @@
 -- What `window` does: the recording of the window that its input has.
 use Rattle.std.specs.Prelude.{◌≡◌, ℕ, ◌-◌, false, List, [], take, drop, Option, None, Some, IsSomeAnd, Result, Ok, Err}
+use Rattle.std.specs.Io.KnownBytes.{Appends}
 use Rattle.cx_hart.specs.HartStep.{hart_step}
 use Rattle.cx_hart.specs.Reads.{read_indices}
 use Rattle.cx_hart.specs.declared.record.StepRec.{StepRec}
@@ -59,6 +60,21 @@ pub record WindowOf (a b : ℕ) (bytes : List ℕ) (W : Recording) : Type 0 wher
   pub run_is : run_of (hart_step of.split) of (of.end - of.base) ≡ Some run
   pub same_run : IsSomeAnd (run_of (hart_step W.split) W (W.end - W.base)) (λ here. here.records ≡ take (b - a)
       (drop (a - of.base) run.records))
+
+-- A command refuses neither of two inputs, and writes the same of both.
+pub record WritesAlike (d : Doing) (one other : List ℕ) : Type 0 where
+  pub good : d.refusal one ≡ None
+  pub other_good : d.refusal other ≡ None
+  pub same : d.full one ≡ d.full other
+
+-- An answer that isn't a fault or want of memory is Done, and what it leaves is what is written of these bytes.
+abbrev pub DoneAs : Doing → List ℕ → Option (List ℕ) → Option (List ℕ) → Status → Type 0
+DoneAs d bytes held now status.Done = Appends held now (d.full bytes)
+DoneAs d bytes held now status.ReadFault = Unit {0}
+DoneAs d bytes held now status.WriteFault = Unit {0}
+DoneAs d bytes held now status.WorldFault = Unit {0}
+DoneAs d bytes held now status.NoMemory = Unit {0}
+DoneAs d bytes held now _ = ⊥
 
 -- ---- the parts of a call
 

@@ -6,10 +6,11 @@ ghost use Rattle.cx_codec.specs.Reads.{Begins};
 ghost use Rattle.cx_map.specs.Bytes.{AreBytes};
 ghost use Rattle.cx_replay.specs.Records.{MayBeWhole};
 ghost use Rattle.cx_words.specs.Parse.{parse};
-ghost use Rattle.cx_top.specs.Call.{MayAnswer, doing_of, input_behind};
-ghost use Rattle.cx_top.specs.Doing.{Answers, CausedBy, Consumes, IsUntouched, Judges, Leaves};
+ghost use Rattle.cx_top.specs.Call.{Carries, IsUnasked, MayAnswer, input_behind, reads, streams};
+ghost use Rattle.cx_top.specs.Doing.{CausedBy, Consumes, IsUntouched, Judges};
 
 use crate::lines::Lines;
+use crate::record::{record_seed, record_steps};
 use crate::replay::replay;
 use crate::status::Status;
 use crate::stream::stream;
@@ -22,8 +23,9 @@ use cx_words::{Command, read_words};
 use std::alloc::Global;
 
 /// Carries out the command that the words after the program's name ask for: reads its input from the source to the
-/// end, and writes its output to the sink. The world isn't asked by any command yet. What a command does is one record
-/// of its input: the answer where it is refused, what is written where it isn't, and what is settled where it is.
+/// end, and writes its output to the sink. Only `record` without a seed asks the world, once for each step, and only
+/// once its whole image was judged. What a command does is one record of its input, and for `record` of the world's
+/// answers: the answer where it is refused, what is written where it isn't, and what is settled where it is.
 ///
 /// What an answer says of the input holds of every input that begins with what the source had given by then, and may be
 /// the whole one: of the real input, and where the source failed, of what it gave.
@@ -34,17 +36,24 @@ use std::alloc::Global;
 /// - `Format`, `Broken`: exactly where the first bad place of the input says so, and no fault came first.
 /// - `NotThere`: exactly where the input is a recording without the window's steps; only of `window` and
 ///   `trace window`.
-/// - `ReadFault`, `WriteFault`: only where the count of faults of the source, of the sink, rose in this call. Before a
-///   fault of the source nothing bad was given.
+/// - `ReadFault`, `WriteFault`, `WorldFault`: only where the count of faults of the source, of the sink, of the world,
+///   rose in this call. Before a fault of the source nothing bad was given. `WorldFault` is only of `record` without a
+///   seed.
 /// - `NoMemory`: where memory was refused.
 /// - `Done`: nothing is bad in the input, and all output was written.
 ///
-/// Nothing is left in the source after `Done` of a command that reads, and after `NotThere` and `WriteFault` of
-/// `window` and `trace window`; before another answer it may not have been read to its end.
+/// Nothing is left in the source after `Done` of a command that reads, and after `NotThere`, `WriteFault` and
+/// `WorldFault` of `window`, `trace window` and `record`; before another answer it may not have been read to its end.
 ///
 /// `window` and `trace window` write nothing before the whole input was judged: the sink is as it was after every
 /// answer but `Done`, `WriteFault` and `NoMemory`, after which it holds the window's recording, or the lines of its
 /// steps, behind what it held, or a front of that.
+///
+/// `record` writes nothing before the whole image was judged either. After `Done` the sink holds a recording that is
+/// accepted, whose run is that of the machine over the world's answers, or the seed's: at most so many steps, and fewer
+/// only where the last one stored to the power switch. After `WorldFault` it holds the whole blocks of 4,096 bytes of
+/// what was put of the run so far; after `WriteFault` and `NoMemory` a front of the recording of a run that begins with
+/// these answers.
 ///
 /// `trace all` and `replay` write the lines of the steps as they are settled: after `Done` all of them; after `Format`,
 /// `Broken` and `ReadFault` as many whole blocks of 4,096 bytes as the lines of the settled steps fill; after
@@ -55,27 +64,24 @@ pub fn run<S: Source, T: Sink, W: World>(
     words: &[String],
     source: &mut S,
     sink: &mut T,
-    _world: &mut W,
+    world: &mut W,
 ) -> Status
-    ensures answer { IsSome (S.left source.old) → (input : List ℕ) → Begins (S.given source.new) input
+    ensures carries { IsSome (S.left source.old) → (input : List ℕ) → Begins (S.given source.new) input
         → AreBytes (input_behind (S.given source.old) input)
-        → Answers (doing_of (parse (map string_bytes words.now))) (input_behind (S.given source.old) input)
-        (MayBeWhole (S.left source.new) (S.given source.new) input) (input ≡ S.given source.new) result }
-    ensures leaves { IsSome (S.left source.old) → (input : List ℕ) → Begins (S.given source.new) input
-        → AreBytes (input_behind (S.given source.old) input)
-        → Leaves (doing_of (parse (map string_bytes words.now))) (input_behind (S.given source.old) input)
-        (MayBeWhole (S.left source.new) (S.given source.new) input) (input ≡ S.given source.new) result
-        (T.held sink.old) (T.held sink.new) }
+        → Carries (parse (map string_bytes words.now)) (input_behind (S.given source.old) input)
+        (MayBeWhole (S.left source.new) (S.given source.new) input) (input ≡ S.given source.new)
+        (W.answers world.old) (W.answers world.new) (T.held sink.old) (T.held sink.new) result }
     ensures consumes { IsSome (S.left source.old)
         → Consumes (S.left source.old) (S.given source.old) (S.left source.new) (S.given source.new)
-        (Judges (doing_of (parse (map string_bytes words.now))).streams result) }
+        (Judges (streams (parse (map string_bytes words.now))) result) }
     ensures kind { MayAnswer (parse (map string_bytes words.now)) result }
-    ensures unread { (doing_of (parse (map string_bytes words.now))).reads ≡ false → source.new ≡ source.old }
-    ensures untouched { IsUntouched (doing_of (parse (map string_bytes words.now))).streams result
+    ensures unread { reads (parse (map string_bytes words.now)) ≡ false → source.new ≡ source.old }
+    ensures untouched { IsUntouched (streams (parse (map string_bytes words.now))) result
         → sink.new ≡ sink.old }
-    ensures unasked { _world.new ≡ _world.old }
+    ensures unasked { IsUnasked (parse (map string_bytes words.now)) result → world.new ≡ world.old }
     ensures read_cause { CausedBy Status.ReadFault (S.faults source.old) (S.faults source.new) result }
     ensures write_cause { CausedBy Status.WriteFault (T.faults sink.old) (T.faults sink.new) result }
+    ensures world_cause { CausedBy Status.WorldFault (W.faults world.old) (W.faults world.new) result }
 {
     match read_words(words) {
         Some(Command::Window(from, to)) => window(alloc, Span { from, to }, source, sink),
@@ -88,6 +94,8 @@ pub fn run<S: Source, T: Sink, W: World>(
         Some(Command::TraceAll) => stream::<Lines, S, T>(alloc, source, sink),
         Some(Command::Replay) => replay(alloc, source, sink),
         Some(Command::Upgrade) => stream::<Upgrade, S, T>(alloc, source, sink),
+        Some(Command::Record(steps)) => record_steps(alloc, steps, source, sink, world),
+        Some(Command::RecordSeed(steps, seed)) => record_seed(alloc, steps, seed, source, sink),
         Some(_) => Status::NotBuilt(0),
         None => Status::Usage,
     }

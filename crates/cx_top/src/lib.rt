@@ -6,7 +6,9 @@ mod front;
 mod laws;
 mod lines;
 mod open;
+mod record;
 mod replay;
+mod seed_told;
 mod slice;
 mod status;
 mod stream;
@@ -19,6 +21,7 @@ mod window;
 
 pub use call::run;
 pub use laws::{
-    good_inputs_are_done, traced_windows_are_parts, upgrades_run_alike, windows_are_written,
+    good_inputs_are_done, recordings_are_live_runs, traced_windows_are_parts, upgrades_run_alike,
+    windows_are_written, windows_of_windows_are_windows,
 };
 pub use status::Status;

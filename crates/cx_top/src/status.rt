@@ -2,14 +2,17 @@
 
 ghost use Rattle.std.specs.Prelude.{◌≡◌, ◌≤◌, ◌++◌, length};
 ghost use Rattle.std.specs.Fmt.{decimal};
-ghost use Rattle.cx_top.specs.Faults.{status_of_replay, status_of_log, status_of_out};
+ghost use Rattle.cx_top.specs.Faults.{status_of_image, status_of_log, status_of_out, status_of_record};
+ghost use Rattle.cx_top.specs.Faults.{status_of_replay};
 ghost use Rattle.cx_top.specs.declared.status.Status.TheVariants.{NoMemory as no_memory};
 ghost use Rattle.cx_top.specs.Status.{status_line, status_number};
 
 use cx_codec::OutFault;
 use cx_io::NoMemory;
+use cx_live::ImageFault;
 use cx_log::LogFault;
 use cx_print::Text;
+use cx_record::RecordFault;
 use cx_replay::ReplayFault;
 
 /// How a command ended.
@@ -115,6 +118,30 @@ impl From<ReplayFault> for Status {
             ReplayFault::Broken(step) => Status::Broken(step),
             ReplayFault::ReadFault => Status::ReadFault,
             ReplayFault::NoMemory => Status::NoMemory,
+        }
+    }
+}
+
+impl From<ImageFault> for Status {
+    ghost from_gives = { λ fault s. s ≡ status_of_image fault };
+
+    fn from(fault: ImageFault) -> Self {
+        match fault {
+            ImageFault::Format(offset) => Status::Format(offset),
+            ImageFault::ReadFault => Status::ReadFault,
+            ImageFault::NoMemory => Status::NoMemory,
+        }
+    }
+}
+
+impl From<RecordFault> for Status {
+    ghost from_gives = { λ fault s. s ≡ status_of_record fault };
+
+    fn from(fault: RecordFault) -> Self {
+        match fault {
+            RecordFault::WorldFault => Status::WorldFault,
+            RecordFault::WriteFault => Status::WriteFault,
+            RecordFault::NoMemory => Status::NoMemory,
         }
     }
 }

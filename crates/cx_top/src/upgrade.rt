@@ -5,7 +5,7 @@ ghost use Rattle.cx_io.specs.Cause.{HasCause};
 ghost use Rattle.cx_log.specs.Item.{is_end};
 ghost use Rattle.cx_run.specs.StepEvents.{line_events, mark_events, step_events, transfer_events, value_events};
 ghost use Rattle.cx_replay.specs.Events.{recorded_of};
-ghost use Rattle.cx_top.specs.Upgrade.{PutsEvents};
+ghost use Rattle.cx_record.specs.Putting.{PutsEvents};
 
 use crate::front::start_upgraded;
 use crate::telling::Teller;

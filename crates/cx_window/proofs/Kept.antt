@@ -14,8 +14,8 @@ use Rattle.cx_codec.specs.Varint.{varint}
 use Rattle.cx_log.specs.Order.{at_start}
 use Rattle.cx_log.specs.Recording.{Recorded}
 use Rattle.cx_log.specs.declared.order.Behind.{Behind}
-use Rattle.cx_replay.specs.Events.{behind_all, events_text}
-use Rattle.cx_replay.proofs.EventsKept.{records_by_parts}
+use Rattle.cx_run.specs.SoFar.{behind_all, events_text}
+use Rattle.cx_run.proofs.TextSoFar.{records_by_parts}
 use Rattle.cx_window.specs.Slice.{IsWhole, Sliced, written_of}
 
 -- one page more, where it is written

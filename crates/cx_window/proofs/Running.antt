@@ -1,18 +1,18 @@
 -- What a slicer keeps of a replay, step by step.
 use Rattle.std.proofs.Common.{◌≡◌, ℕ, ◌+◌, ◌≤◌, ◌==◌, Bool, true, false, List, [], ◌∷◌, ◌++◌, length}
-use Rattle.std.proofs.Common.{Err}
+use Rattle.std.proofs.Common.{Err, Result, refl, append-nil}
 use Rattle.std.proofs.Common.{Ok, Option, None, Some, IfSome, IsSome, arith, ap, sym, subst, ◌∙◌}
 use Rattle.cx_csr.specs.Keeps.{Keeps}
 use Rattle.cx_hart.specs.HartStep.{hart_step}
 use Rattle.cx_hart.specs.Whole.{AtMoment, Whole, machine_at, machine_of}
 use Rattle.cx_hart.specs.declared.record.StepRec.{StepRec}
 use Rattle.cx_log.specs.Reading.{Opened}
-use Rattle.cx_log.specs.Recording.{Recording}
+use Rattle.cx_log.specs.Recording.{Recorded, Recording}
 use Rattle.cx_log.specs.Scan.{Scan, decoded}
 use Rattle.cx_machine.specs.Due.{Due}
 use Rattle.cx_machine.specs.Machine.{MachineState, pages_of}
 use Rattle.cx_map.specs.Map.{size_of_pages}
-use Rattle.cx_replay.specs.Replaying.{Answers, Stands}
+use Rattle.cx_replay.specs.Replaying.{Answers, Arrives, Stands, StepsOn, Unknown}
 use Rattle.cx_replay.specs.declared.progress.Progress.{Progress}
 use Rattle.cx_run.specs.Due.{due_at}
 use Rattle.cx_replay.specs.declared.fault.ReplayFault.{ReplayFault}
@@ -20,10 +20,11 @@ use Rattle.cx_replay.specs.declared.fault.ReplayFault.TheVariants as fault
 use Rattle.cx_ram.specs.PhysicalMemory.{SavedMemory}
 use Rattle.cx_run.specs.Run.{run_of}
 use Rattle.cx_run.specs.StepEvents.{has_mark}
-use Rattle.cx_window.specs.Cut.{IsShown, StopsFor}
+use Rattle.cx_window.specs.Cut.{IsShown, StopsFor, Turned}
 use Rattle.cx_window.specs.Marks.{AddsMarks}
-use Rattle.cx_window.specs.Slicing.{HasOrder, IsFit, IsMomentOf, IsSeen, SameWindow, Slices, Slicing, window_events}
+use Rattle.cx_window.specs.Slicing.{HasOrder, IsFit, IsMomentOf, IsSeen, SameWindow, Slices, Slicing, is_within, window_events}
 use Rattle.cx_window.specs.Slicing.{window_reads}
+use Rattle.cx_window.proofs.Marking.{nothing_marked}
 use Rattle.cx_window.proofs.RunSlices.{AreEventsOf, seen_there, slices_fed, slices_seen}
 
 -- a fault of the replay
@@ -108,6 +109,46 @@ replay_goes o whole given m p bytes Has m' p' bytes' Has' due end may cut saved 
     subst (λ (x : Slicing). Slices R m.saved (given ++ rec ∷ []) x) (sym same)
     (slices_fed R m.saved given mid new.marks new.events step rec marked due count adds more are there shown) in
     (given ++ rec ∷ [], (answers.0, rw still fed))
+
+-- one step more was taken, of which no record was made; it isn't one of the window
+replay_passes : (o : Opened) (whole : Scan) (given : List StepRec) (m : Whole) (p : Progress) (bytes : List ℕ)
+    (Has : Scan → Type 0) (m' : Whole) (p' : Progress) (bytes' : List ℕ) (Has' : Scan → Type 0) (due : Due) (end : ℕ)
+    (may cut : Type 0) (saved : List (Option SavedMemory)) (s mid : Slicing) (step at : ℕ) (rec : StepRec)
+    → Stands o whole given m p bytes Has → step ≡ p.at → m'.saved ≡ m.saved
+    → IsSeen (step == s.from) (machine_of m) saved m.saved s mid → SameWindow s mid
+    → Slices (decoded o whole) saved given s → is_within mid step ≡ false
+    → Answers o whole given m' p' bytes' Has' due end may cut (Ok (Some rec))
+    → IsShown o whole at m'.saved mid (λ now. Stands o whole now m' p' bytes' Has') may true
+replay_passes o whole given m p bytes Has m' p' bytes' Has' due end may cut saved s mid step at rec stands here still
+    seen window slices outside answers =
+    let marked : Bool = has_mark (o.header.base + length given) whole.events in
+    let reads : window_reads mid step rec ≡ [] = rw outside refl in
+    let events : window_events mid step marked due ≡ [] = rw outside refl in
+    replay_goes o whole given m p bytes Has m' p' bytes' Has' due end may cut saved s mid mid step at rec marked stands
+    here still seen window slices answers (λ order. refl)
+    (subst (λ (xs : List ℕ). AddsMarks mid.marks mid.marks xs) (sym reads) (nothing_marked mid.marks))
+    (sym (append-nil mid.events) ∙ ap (λ (xs : List Recorded). mid.events ++ xs) (sym events)) refl
+
+-- a step outside the window was taken, or there is none, or a fault came
+pub replay_untold : (o : Opened) (whole : Scan) (given : List StepRec) (m : Whole) (p : Progress) (bytes : List ℕ)
+    (Has : Scan → Type 0) (m' : Whole) (p' : Progress) (bytes' : List ℕ) (Has' : Scan → Type 0) (due : Due) (end : ℕ)
+    (may cut : Type 0) (saved : List (Option SavedMemory)) (s mid : Slicing) (step : ℕ) (r : Result Bool ReplayFault)
+    → Stands o whole given m p bytes Has → step ≡ p.at → StepsOn p.at p'.at r → m'.saved ≡ m.saved
+    → IsSeen (step == s.from) (machine_of m) saved m.saved s mid → SameWindow s mid
+    → Slices (decoded o whole) saved given s → is_within mid step ≡ false
+    → Arrives Unknown o whole given m' p' bytes' Has' due end may cut r
+    → Turned o whole p'.at m'.saved mid (λ now. Stands o whole now m' p' bytes' Has') end may cut r
+replay_untold o whole given m p bytes Has m' p' bytes' Has' due end may cut saved s mid step (Ok true) stands here on
+    still seen window slices outside arrives =
+    replay_passes o whole given m p bytes Has m' p' bytes' Has' due end may cut saved s mid step p'.at arrives.0 stands
+    here still seen window slices outside arrives.1.1
+replay_untold o whole given m p bytes Has m' p' bytes' Has' due end may cut saved s mid step (Ok false) stands here on
+    still seen window slices outside arrives =
+    replay_ends o whole given m p bytes Has m' p' bytes' Has' due end may cut
+    (λ now. Stands o whole now m' p' bytes' Has') saved s mid step p'.at stands here on still seen slices arrives
+replay_untold o whole given m p bytes Has m' p' bytes' Has' due end may cut saved s mid step (Err e) stands here on
+    still seen window slices outside arrives =
+    stops_of o whole given m' p' bytes' Has' due end may cut e arrives
 
 pub same_on : (old mid new : Slicing) → SameWindow old mid → SameWindow mid new → SameWindow old new
 same_on old mid new first last = record {

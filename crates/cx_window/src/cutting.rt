@@ -49,7 +49,8 @@ fn see<R: Records>(replay: &mut Replay<R>, slicer: &mut Slicer) -> Result<(), No
     Ok(())
 }
 
-// Takes the next step, and shows it to the slicer; false where the recording was read to its end.
+// Takes the next step, and shows it to the slicer where it is one of the window; false where the recording was read to
+// its end. Of a step outside the window no record is made.
 fn turn<R: Records, S: Source>(
     replay: &mut Replay<R>,
     slicer: &mut Slicer,
@@ -82,6 +83,9 @@ fn turn<R: Records, S: Source>(
 {
     let step = replay.at();
     see(replay, slicer)?;
+    if !slicer.has_step(step) {
+        return replay.next_untold(source);
+    }
     if !replay.next_into(rec, source)? {
         return Ok(false);
     }

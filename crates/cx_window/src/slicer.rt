@@ -1,11 +1,11 @@
 //! What is kept of a run for its window.
 
-ghost use Rattle.std.specs.Prelude.{◌≡◌, ◌≤◌, ◌==◌, ◌++◌, length, IfOk, OnOk, Some};
+ghost use Rattle.std.specs.Prelude.{◌≡◌, ◌≤◌, ◌==◌, ◌++◌, length, true, IfOk, OnOk, Some};
 ghost use Rattle.cx_map.specs.Map.{size_of_pages};
 ghost use Rattle.cx_window.specs.Marks.{AddsMarks};
 ghost use Rattle.cx_log.specs.Order.{IsHeader};
 ghost use Rattle.cx_window.specs.Slice.{Finishes};
-ghost use Rattle.cx_window.specs.Slicing.{IsFit, nothing_kept, window_events, window_reads};
+ghost use Rattle.cx_window.specs.Slicing.{IsFit, is_within, nothing_kept, window_events, window_reads};
 
 use crate::marks::{blank, mark_reads};
 use crate::slice::Slice;
@@ -17,8 +17,8 @@ use std::alloc::Global;
 use std::marker::Model;
 
 /// A slicer of the window from one step up to but not including another. It is handed a moment of the machine before
-/// the window's first step, and shown the record of each step; it marks the pages that the window's steps read, and
-/// keeps their events.
+/// the window's first step, and shown the record of each step of the window; it marks the pages that these steps read,
+/// and keeps their events.
 #[derive(Drop)]
 pub struct Slicer {
     alloc: Global,
@@ -66,6 +66,13 @@ impl Slicer {
         step == self.from
     }
 
+    /// Whether this step is one of the window.
+    pub fn has_step(&self, step: u64) -> bool
+        ensures { result ≡ is_within self.now step }
+    {
+        self.from <= step && step < self.to
+    }
+
     /// Hands it the moment of the machine before the window's first step.
     pub fn keep(&mut self, moment: Moment)
         ensures { self.new ≡ record self.old { moment = Some moment } }
@@ -73,8 +80,8 @@ impl Slicer {
         self.moment = Some(moment);
     }
 
-    /// Shows it the record of a step, whether a mark stands at the step, and what was due to it. It takes memory where
-    /// an event is kept.
+    /// Shows it the record of a step of the window, whether a mark stands at the step, and what was due to it. It takes
+    /// memory where an event is kept.
     pub fn feed(
         &mut self,
         step: u64,
@@ -82,17 +89,15 @@ impl Slicer {
         marked: bool,
         due: &DueRecords,
     ) -> Result<(), NoMemory>
-        requires { rec.now.walked ≤ 6 }
+        requires walked { rec.now.walked ≤ 6 }
+        requires within { is_within self.old step ≡ true }
         ensures marks { AddsMarks self.old.marks self.new.marks (window_reads self.old step rec.now) }
         ensures events { OnOk result (self.new.events ≡ self.old.events ++ window_events self.old step marked due.now) }
         ensures same { self.new ≡ record self.old { marks = self.new.marks; events = self.new.events } }
     {
-        if self.from <= step && step < self.to {
-            mark_reads(&mut self.marks, rec);
-            self.events
-                .push_step(step, step != self.from && marked, due)?;
-        }
-        Ok(())
+        mark_reads(&mut self.marks, rec);
+        self.events
+            .push_step(step, step != self.from && marked, due)
     }
 
     /// What was kept of a window of a recording with this header and of this machine; None exactly where no moment of

@@ -2,7 +2,7 @@
 
 ghost use Rattle.std.specs.Prelude.{◌≡◌, ◌<◌};
 
-use crate::tests::play::{take_step, transfer};
+use crate::tests::acting::{take_step, transfer};
 use crate::{Due, Ended, Machine, NoMemory, StepAnswer, Steps};
 use cx_csr::State;
 use std::alloc::Global;

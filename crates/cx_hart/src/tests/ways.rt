@@ -3,9 +3,8 @@
 
 ghost use Rattle.std.specs.Prelude.{◌≡◌, ◌<◌};
 
-use crate::tests::play::{Given, Start, Want, play, transfer, turn};
-use crate::tests::record::Mark;
-use crate::{Due, Ended, Machine, NoMemory, StepAnswer, StepRec, Steps, Went};
+use crate::tests::acting::transfer;
+use crate::{Due, Machine, NoMemory, StepAnswer, StepRec, Steps, Went};
 use cx_csr::{Lines, State};
 use std::alloc::Global;
 use std::marker::Brand;
@@ -187,30 +186,4 @@ fn three_ways_go_the_same_way(rt: HostRuntime) -> Result<(), Fail> {
         three.compare(&rt);
     }
     Ok(())
-}
-
-/// A word that is written over between two fetches of it: the hart carries out what stands there.
-#[test]
-fn a_word_is_written_over_between_two_fetches(rt: HostRuntime) -> Result<(), Fail> {
-    let start = Start {
-        space: false,
-        split: false,
-        state: &[],
-        memory: &[(0x8000_0000, 0x0012_8293), (0x8000_0004, 0xffdf_f06f)], // addi x5, x5, 1 and jal x0, -4
-    };
-    let first = Mark::Plain(0x8000_0000, 0x0012_8293);
-    let back = Mark::Plain(0x8000_0004, 0xffdf_f06f);
-    let other = Mark::Plain(0x8000_0000, 0x0022_8293); // addi x5, x5, 2
-    let ends = Want::Ends(Ended::Retired);
-    let turns = [
-        turn(&[], ends, &[first], &[(5, 1)]),
-        turn(&[], ends, &[back], &[(0, 0x8000_0000)]),
-        turn(
-            &[Given::Dma(0x8000_0000, 4, 0x0022_8293)],
-            ends,
-            &[other],
-            &[(5, 3)],
-        ),
-    ];
-    play(&rt, rt.alloc(), &start, &turns)
 }

@@ -12,7 +12,7 @@ use std::alloc::{AllocError, Global};
 use std::test::Fail;
 
 // What a call with these words answers.
-fn answer<S: Source>(
+pub fn answer<S: Source>(
     alloc: Global,
     texts: &[&str],
     source: &mut S,
@@ -62,6 +62,22 @@ fn one_byte_a_call_is_read_as_all_at_once(rt: HostRuntime) -> Result<(), Fail> {
     Ok(())
 }
 
+// The answer of a call whose source fails at one of its reads, and how many bytes the sink holds then.
+fn read_failing(alloc: Global, texts: &[&str], call: u64) -> Result<(Status, usize), AllocError> {
+    let mut source = MemSource::new(two_steps(alloc)?, [call].to_vec(alloc)?);
+    let mut sink = MemSink::new(alloc, Vec::new(alloc));
+    let status = answer(alloc, texts, &mut source, &mut sink)?;
+    Ok((status, sink.bytes().len()))
+}
+
+// The same where the sink fails at one of its calls.
+fn write_failing(alloc: Global, texts: &[&str], call: u64) -> Result<(Status, usize), AllocError> {
+    let mut source = MemSource::new(two_steps(alloc)?, Vec::new(alloc));
+    let mut sink = MemSink::new(alloc, [call].to_vec(alloc)?);
+    let status = answer(alloc, texts, &mut source, &mut sink)?;
+    Ok((status, sink.bytes().len()))
+}
+
 #[test]
 fn faults_are_told(rt: HostRuntime) -> Result<(), Fail> {
     let alloc = rt.alloc();
@@ -98,19 +114,16 @@ fn a_prefix_is_left(rt: HostRuntime) -> Result<(), Fail> {
 /// which whole blocks are there.
 #[test]
 fn a_source_fails_at_each_call(rt: HostRuntime) -> Result<(), Fail> {
-    let alloc = rt.alloc();
     for (words, settled) in [
         (["window", "0", "2"].as_slice(), 0),
         (["trace", "all"].as_slice(), 0),
+        (["trace", "window", "0", "2"].as_slice(), 0),
         (["replay"].as_slice(), 0),
         (["upgrade"].as_slice(), 4096),
     ] {
         for (call, count) in [(0, 0), (1, 0), (2, settled)] {
-            let mut source = MemSource::new(two_steps(alloc)?, [call].to_vec(alloc)?);
-            let mut sink = MemSink::new(alloc, Vec::new(alloc));
-            let status = answer(alloc, words, &mut source, &mut sink)?;
-            assert_eq!(rt; status, Status::ReadFault, "{call}");
-            assert_eq!(rt; sink.bytes().len(), count, "{call}");
+            let answered = read_failing(rt.alloc(), words, call)?;
+            assert_eq!(rt; answered, (Status::ReadFault, count), "{call}");
         }
     }
     Ok(())
@@ -119,19 +132,17 @@ fn a_source_fails_at_each_call(rt: HostRuntime) -> Result<(), Fail> {
 /// What was written before the call that fails is left.
 #[test]
 fn a_sink_fails_at_each_call(rt: HostRuntime) -> Result<(), Fail> {
-    let alloc = rt.alloc();
     for (words, call, count) in [
         (["trace", "all"].as_slice(), 0, 0),
+        (["trace", "window", "0", "2"].as_slice(), 0, 0),
+        (["trace", "window", "0", "2"].as_slice(), 1, 1198),
         (["replay"].as_slice(), 0, 0),
         (["upgrade"].as_slice(), 0, 0),
         (["upgrade"].as_slice(), 1, 4096),
         (["upgrade"].as_slice(), 2, 4340),
     ] {
-        let mut source = MemSource::new(two_steps(alloc)?, Vec::new(alloc));
-        let mut sink = MemSink::new(alloc, [call].to_vec(alloc)?);
-        let status = answer(alloc, words, &mut source, &mut sink)?;
-        assert_eq!(rt; status, Status::WriteFault, "{call}");
-        assert_eq!(rt; sink.bytes().len(), count, "{call}");
+        let answered = write_failing(rt.alloc(), words, call)?;
+        assert_eq!(rt; answered, (Status::WriteFault, count), "{call}");
     }
     Ok(())
 }

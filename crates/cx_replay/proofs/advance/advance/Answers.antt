@@ -41,11 +41,17 @@ returns-clause-answers g c told input begins end o whole given stands =
     let settled = rw c.if-not-branch.false at (c.in_ok-settle_next.ensures.settles told input begins end whole
     stands.read) in
     let goes = rw c.if-not-branch-2.false at c.in_ok-take_step.ensures.step in
-    rw c.pass.ensures (answers_step c.take_step.new.machine c.take_step.new.rec c.settle_next.new.progress end
-    (Unit {0}) (Unit {0}) stands settled
-    c.settle_next.ensures.at c.take_step.ensures.split goes)
+    rw c.pass.ensures (
+      goes.0,
+      (
+        goes.1.1,
+        answers_step c.take_step.new.machine goes.0 c.settle_next.new.progress end
+            (Unit {0}) (Unit {0}) stands settled
+            c.settle_next.ensures.at c.take_step.ensures.split goes.1.0,
+      ),
+    )
 
 pub returns-clause-formed : goal.returns-clause-formed
 returns-clause-formed g c =
     let goes = rw c.if-not-branch-2.false at c.in_ok-take_step.ensures.step in
-    (well_formed _ _ _ (record { machine = _; rec = c.take_step.new.rec }) goes).walked
+    (goes.0, (goes.1.1, (well_formed _ _ _ (record { machine = _; rec = goes.0 }) goes.1.0).walked))

@@ -5,7 +5,7 @@ use Rattle.cx_replay.proofs.Steps.{step_behind}
 use Rattle.cx_replay.proofs.step.take_step.Goals as goal
 
 pub returns-clause-step : goal.returns-clause-step
-returns-clause-step c =
+returns-clause-step g c =
     let same = c.in_ok-reserve.ensures.same in
     let behind : machine_of c.reserve.new.self ≡ after_transfers c.args.due.now.transfers
     (machine_of c.args.machine.now) = ap machine_of same

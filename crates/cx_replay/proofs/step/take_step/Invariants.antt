@@ -1,4 +1,4 @@
 use Rattle.cx_replay.proofs.step.take_step.Given as goal
 
 abbrev pub ghosts-turn_counted : goal.ghosts-turn_counted
-ghosts-turn_counted a = record { name = a.blank.name; parts = a.blank.parts }
+ghosts-turn_counted g a = record { name = a.blank.name; parts = a.blank.parts }

@@ -4,7 +4,7 @@ use Rattle.cx_codec.proofs.Composing.{breaks, fails, goes}
 use Rattle.cx_codec.proofs.Following.{follows_none}
 use Rattle.cx_top.specs.Opening.{begun_at, behind_kind}
 use Rattle.cx_top.proofs.Composed.{begun_parts}
-use Rattle.cx_top.proofs.Refusals.{refused_unread}
+use Rattle.cx_live.proofs.Filling.{refused_unread}
 use Rattle.cx_top.proofs.open.open.Goals as goal
 
 pub returns-in_err-bytes-clause-opens : goal.returns-in_err-bytes-clause-opens

@@ -2,7 +2,7 @@ use Rattle.std.proofs.lemmas.Result.{err_from_is_err_and}
 use Rattle.std.proofs.Common.{refl, sym}
 use Rattle.cx_codec.proofs.Composing.{fails, goes, gives}
 use Rattle.cx_top.specs.Opening.{behind_magic_at, filled_at}
-use Rattle.cx_top.proofs.Refusals.{refused_unread}
+use Rattle.cx_live.proofs.Filling.{refused_unread}
 use Rattle.cx_top.proofs.open.open_behind.Goals as goal
 
 pub returns-in_err-reader-clause-opens : goal.returns-in_err-reader-clause-opens

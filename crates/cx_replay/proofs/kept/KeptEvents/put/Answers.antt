@@ -2,7 +2,7 @@ use Rattle.std.proofs.Common.{◌≡◌, ◌<◌, ◌∙◌, List, length, take,
 use Rattle.std.proofs.lemmas.Result.{err_from_is_err_and}
 use Rattle.cx_log.specs.Order.{behind_it}
 use Rattle.cx_log.specs.Recording.{Recorded}
-use Rattle.cx_replay.specs.Events.{behind_all}
+use Rattle.cx_run.specs.SoFar.{behind_all}
 use Rattle.cx_replay.proofs.EventsKept.{behind_more, order_here, order_more, puts_more, puts_stops, taken}
 use Rattle.cx_replay.proofs.kept.KeptEvents.put.Goals as goal
 

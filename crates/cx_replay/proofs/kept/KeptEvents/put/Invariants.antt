@@ -2,7 +2,7 @@ use Rattle.std.proofs.Common.{◌≡◌, drop, take, Ok}
 use Rattle.cx_codec.specs.declared.fault.OutFault.TheVariants.{WriteFault}
 use Rattle.cx_codec.specs.Puts.{Puts, onto}
 use Rattle.cx_log.specs.Order.{InOrder}
-use Rattle.cx_replay.specs.Events.{behind_all, events_text}
+use Rattle.cx_run.specs.SoFar.{behind_all, events_text}
 use Rattle.cx_replay.proofs.kept.KeptEvents.put.Given as goal
 
 abbrev pub invariant-loop-index : goal.invariant-loop-index

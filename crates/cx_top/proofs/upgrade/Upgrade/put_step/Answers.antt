@@ -1,7 +1,7 @@
 use Rattle.std.proofs.Common.{◌==◌, ◌++◌}
 use Rattle.std.proofs.lemmas.Result.{err_from_is_err_and}
 use Rattle.cx_run.specs.StepEvents.{line_events, mark_events, transfer_events, value_events}
-use Rattle.cx_top.proofs.Upgrading.{events_cut, events_on}
+use Rattle.cx_record.proofs.PutRecords.{events_cut, events_on}
 use Rattle.cx_top.proofs.upgrade.Upgrade.put_step.Goals as goal
 
 pub returns-in_err-put_mark-clause-puts : goal.returns-in_err-put_mark-clause-puts

@@ -2,7 +2,8 @@ use Rattle.std.proofs.Common.{◌+◌, ◌<◌, [], arith, drop, length, take, r
 use Rattle.std.proofs.lemmas.Result.{err_from_is_err_and}
 use Rattle.cx_run.specs.StepEvents.{transfer_events}
 use Rattle.cx_replay.proofs.EventsKept.{transfer_kept}
-use Rattle.cx_top.proofs.Upgrading.{all_along, events_along, events_cut, events_on, transfers_cut}
+use Rattle.cx_record.proofs.PutRecords.{events_cut, events_on}
+use Rattle.cx_top.proofs.Upgrading.{all_along, events_along, transfers_cut}
 use Rattle.cx_top.proofs.upgrade.Upgrade.put_transfers.Goals as goal
 
 pub returns-in_err-put-clause-puts : goal.returns-in_err-put-clause-puts

@@ -1,6 +1,6 @@
 use Rattle.std.proofs.Common.{◌^◌, ◌<◌, ◌≤◌, take}
 use Rattle.cx_run.specs.StepEvents.{transfer_events}
-use Rattle.cx_top.specs.Upgrade.{PutAll}
+use Rattle.cx_record.specs.Putting.{PutAll}
 use Rattle.cx_top.proofs.upgrade.Upgrade.put_transfers.Given as goal
 
 abbrev pub invariant-loop-index : goal.invariant-loop-index

@@ -7,7 +7,7 @@ use Rattle.cx_codec.proofs.Putting.{finishes_fails, finishes_on, puts_fails, put
 use Rattle.cx_log.specs.Order.{at_start}
 use Rattle.cx_log.specs.Text.{end_text, pages_text}
 use Rattle.cx_log.specs.declared.order.Behind.{Behind}
-use Rattle.cx_replay.specs.Events.{behind_all, events_text}
+use Rattle.cx_run.specs.SoFar.{behind_all, events_text}
 use Rattle.cx_window.specs.Slice.{IsWhole, Sliced, written_of}
 use Rattle.cx_window.proofs.Kept.{text_of_slice}
 use Rattle.cx_replay.proofs.EventsKept.{order_last}

@@ -1,0 +1,14 @@
+pub mod Filling
+pub mod Inside
+pub mod Sizes
+pub mod Stretches
+pub mod Taking
+pub mod Turning
+pub mod Vectors
+pub mod Whole
+pub mod Images
+pub mod DeviceRules
+pub mod BlockRules
+pub mod TurnRules
+pub mod LiveRuns
+pub mod LiveLoop

@@ -1,0 +1,14 @@
+pub mod Fault
+pub mod Image
+pub mod Reading
+pub mod Text
+pub mod Live
+pub mod Turn
+pub mod Inside
+pub mod Blank
+pub mod Sound
+pub mod Stepping
+pub mod Run
+pub mod Rules
+pub mod Seen
+pub mod Recorded

@@ -1,0 +1,9 @@
+pub mod Seeing
+pub mod Observation
+pub mod Asked
+pub mod Effects
+pub mod Possible
+pub mod Stepping
+pub mod User
+pub mod Tests
+pub mod Typed

@@ -1,0 +1,4 @@
+pub mod Fronts
+pub mod PutRecords
+pub mod Recording
+pub mod Played

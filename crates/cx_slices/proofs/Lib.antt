@@ -1,0 +1,10 @@
+pub mod Small
+pub mod Bytes
+pub mod Words
+pub mod Missing
+pub mod OneStep
+pub mod Runs
+pub mod Groups
+pub mod Streams
+pub mod Stretches
+pub mod Settled

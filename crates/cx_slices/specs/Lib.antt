@@ -1,0 +1,9 @@
+pub mod Bytes
+pub mod Words
+pub mod Observed
+pub mod Items
+pub mod Runs
+pub mod Alone
+pub mod Groups
+pub mod Settled
+pub mod Stretches

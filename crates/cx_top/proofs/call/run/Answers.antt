@@ -1,0 +1,69 @@
+use Rattle.std.proofs.Common.{◌≡◌, Some, map, refl}
+use Rattle.std.specs.String.{string_bytes}
+use Rattle.cx_words.specs.declared.command.Command.TheVariants.{Window, TraceWindow, TraceAll, Record, RecordSeed}
+use Rattle.cx_words.specs.declared.command.Command.TheVariants.{Replay}
+use Rattle.cx_words.specs.declared.command.Command.TheVariants.{Upgrade}
+use Rattle.cx_words.specs.Parse.{parse}
+use Rattle.cx_top.proofs.Carrying.{carries_as, carries_unasked}
+use Rattle.cx_top.proofs.Recordings.{carries_steps}
+use Rattle.cx_top.proofs.StepCounts.{count_of}
+use Rattle.cx_top.proofs.call.run.Goals as goal
+
+pub returns-in-Some-Window-clause-carries : goal.returns-in-Some-Window-clause-carries
+returns-in-Some-Window-clause-carries g c told input begins are =
+    carries_unasked _ (Some (Window c.in-Some-Window.from c.in-Some-Window.to)) _ _ _ _ _ _ _ (cc) refl
+    (c.window.ensures.answer told input begins are) (c.window.ensures.leaves told input begins are)
+
+pub returns-in-Some-TraceWindow-clause-carries : goal.returns-in-Some-TraceWindow-clause-carries
+returns-in-Some-TraceWindow-clause-carries g c told input begins are =
+    carries_unasked _ (Some (TraceWindow c.in-Some-TraceWindow.from c.in-Some-TraceWindow.to)) _ _ _ _ _ _ _ (cc) refl
+    (c.trace_window.ensures.answer told input begins are) (c.trace_window.ensures.leaves told input begins are)
+
+pub returns-in-Some-TraceAll-clause-carries : goal.returns-in-Some-TraceAll-clause-carries
+returns-in-Some-TraceAll-clause-carries g c told input begins are =
+    carries_unasked _ (Some TraceAll) _ _ _ _ _ _ _ (cc) refl
+    (c.stream.ensures.answer told input begins are) (c.stream.ensures.leaves told input begins are)
+
+pub returns-in-Some-Replay-clause-carries : goal.returns-in-Some-Replay-clause-carries
+returns-in-Some-Replay-clause-carries g c told input begins are =
+    carries_unasked _ (Some Replay) _ _ _ _ _ _ _ (cc) refl
+    (c.replay.ensures.answer told input begins are) (c.replay.ensures.leaves told input begins are)
+
+pub returns-in-Some-Upgrade-clause-carries : goal.returns-in-Some-Upgrade-clause-carries
+returns-in-Some-Upgrade-clause-carries g c told input begins are =
+    carries_unasked _ (Some Upgrade) _ _ _ _ _ _ _ (cc) refl
+    (c.stream-in-Some-Upgrade.ensures.answer told input begins are)
+    (c.stream-in-Some-Upgrade.ensures.leaves told input begins are)
+
+pub returns-in-Some-Record-clause-carries : goal.returns-in-Some-Record-clause-carries
+returns-in-Some-Record-clause-carries g c told input begins are =
+    carries_as _ (Some (Record c.in-Some-Record.steps)) _ _ _ _ _ _ _ _ (cc)
+    (carries_steps c.in-Some-Record.steps _ _ _ _ _ _ _ _ (c.record_steps.ensures.records told input begins))
+
+pub returns-in-Some-RecordSeed-clause-carries : goal.returns-in-Some-RecordSeed-clause-carries
+returns-in-Some-RecordSeed-clause-carries g c told input begins are =
+    carries_unasked _ (Some (RecordSeed c.in-Some-RecordSeed.steps c.in-Some-RecordSeed.seed)) _ _ _ _ _ _ _ (cc)
+    (c.record_seed.ensures.asks told input begins, refl) (c.record_seed.ensures.answer told input begins)
+    (c.record_seed.ensures.leaves told input begins)
+
+pub record_steps-requires-clause-some : goal.record_steps-requires-clause-some
+record_steps-requires-clause-some g c =
+    let is : parse (map string_bytes c.args.words.now) ≡ Some (Record c.in-Some-Record.steps) = cc in
+    (count_of (map string_bytes c.args.words.now) _ is).0
+
+pub record_steps-requires-clause-most : goal.record_steps-requires-clause-most
+record_steps-requires-clause-most g c =
+    let is : parse (map string_bytes c.args.words.now) ≡ Some (Record c.in-Some-Record.steps) = cc in
+    (count_of (map string_bytes c.args.words.now) _ is).1
+
+pub record_seed-requires-clause-some : goal.record_seed-requires-clause-some
+record_seed-requires-clause-some g c =
+    let is : parse (map string_bytes c.args.words.now)
+    ≡ Some (RecordSeed c.in-Some-RecordSeed.steps c.in-Some-RecordSeed.seed) = cc in
+    (count_of (map string_bytes c.args.words.now) _ is).0
+
+pub record_seed-requires-clause-most : goal.record_seed-requires-clause-most
+record_seed-requires-clause-most g c =
+    let is : parse (map string_bytes c.args.words.now)
+    ≡ Some (RecordSeed c.in-Some-RecordSeed.steps c.in-Some-RecordSeed.seed) = cc in
+    (count_of (map string_bytes c.args.words.now) _ is).1
