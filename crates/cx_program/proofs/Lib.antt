@@ -1,0 +1,5 @@
+pub mod First
+pub mod Numbers
+pub mod Rising
+pub mod Shown
+pub mod Pages

@@ -1,0 +1,14 @@
+//! A program in user mode as code sees it: what an observation tells and leaves, and what is known of a program at a
+//! step.
+#![tactic(auto)]
+
+mod answers;
+mod bytes;
+mod room;
+mod sorting;
+mod standing;
+mod words;
+
+pub use bytes::{Bytes, bytes_seen, bytes_written};
+pub use standing::{Standing, has_byte};
+pub use words::{next_words, words_told};

@@ -1,0 +1,27 @@
+use Rattle.std.proofs.lemmas.Result.{err_from_is_err_and}
+use Rattle.std.proofs.Common.{refl}
+use Rattle.cx_slicefmt.proofs.Following.{ends_as, ends_with, next_fails, next_group, next_ends}
+use Rattle.cx_slicefmt.proofs.reader.GroupReader.next.Goals as goal
+
+pub returns-in_err-found-clause-reads : goal.returns-in_err-found-clause-reads
+returns-in_err-found-clause-reads g c told =
+    let p = err_from_is_err_and c.from_residual.result c.from_residual.ensures.1 in
+    rw (← c.self.view_is, p.1, p.2) (next_fails _ (c.in_err-found.ensures.reads told))
+
+pub returns-in-Group-clause-reads : goal.returns-in-Group-clause-reads
+returns-in-Group-clause-reads g c told =
+    rw (← c.self.view_is) (next_group _ (rw c.in-Group.is at (c.in_ok-found.ensures.reads told)))
+
+pub returns-in_err-close-in-End-clause-reads : goal.returns-in_err-close-in-End-clause-reads
+returns-in_err-close-in-End-clause-reads g c told =
+    let p = err_from_is_err_and c.from_residual-in_err-close-in-End.result
+    c.from_residual-in_err-close-in-End.ensures.1 in
+    let first = rw c.in-End.is at (c.in_ok-found.ensures.reads told) in
+    rw (← c.self.view_is, p.1, p.2) (next_ends _ _ first
+    (ends_as refl (c.in_err-close-in-End.ensures.ends first.follows.told)) tt)
+
+pub returns-in_ok-close-in-End-clause-reads : goal.returns-in_ok-close-in-End-clause-reads
+returns-in_ok-close-in-End-clause-reads g c told =
+    let first = rw c.in-End.is at (c.in_ok-found.ensures.reads told) in
+    rw (← c.self.view_is) (next_ends _ _ first
+    (ends_with _ (c.in_ok-close-in-End.ensures.ends first.follows.told)) refl)

@@ -1,0 +1,8 @@
+pub mod Checks
+pub mod Again
+pub mod Rules
+pub mod Text
+pub mod Reading
+pub mod Scan
+pub mod Fault
+pub mod Engine
