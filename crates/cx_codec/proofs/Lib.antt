@@ -11,3 +11,9 @@ pub mod Spelling
 pub mod Taking
 pub mod Texts
 pub mod VarintBytes
+pub mod Checked
+pub mod Closing
+pub mod Again
+pub mod Once
+pub mod Midway
+pub mod Sizes

@@ -7,3 +7,5 @@ pub mod Puts
 pub mod Fault
 pub mod Refusal
 pub mod Window
+pub mod Checks
+pub mod Again

@@ -5,7 +5,7 @@ use Rattle.cx_codec.specs.Reads.{MeetsEnd, MeetsIn}
 use Rattle.cx_log.specs.declared.fault.LogFault.{LogFault}
 use Rattle.cx_log.specs.declared.fault.LogFault.TheVariants as log
 use Rattle.cx_log.specs.Fault.{log_met}
-use Rattle.cx_log.specs.Scan.{close_at}
+use Rattle.cx_codec.specs.Checks.{close_at}
 use Rattle.cx_live.specs.Fault.{IsImageRead, image_fault_of}
 use Rattle.cx_live.specs.Image.{Image}
 use Rattle.cx_live.specs.Reading.{image_at, image_or_bad, whole_image_at}

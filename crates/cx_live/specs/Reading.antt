@@ -6,7 +6,7 @@ use Rattle.cx_codec.specs.Fields.{bytes_at}
 use Rattle.cx_codec.specs.Place.{Place, Reader, ◌>>=◌, bad, done, here}
 use Rattle.cx_log.specs.Fields.{varint_between}
 use Rattle.cx_log.specs.Reading.{flag_at, pages_at, start_of}
-use Rattle.cx_log.specs.Scan.{close_at}
+use Rattle.cx_codec.specs.Checks.{close_at}
 use Rattle.cx_map.specs.Map.{size_of_pages}
 use Rattle.cx_map.specs.declared.TheConstants.{MOST_PAGES}
 use Rattle.cx_live.specs.Image.{Image}

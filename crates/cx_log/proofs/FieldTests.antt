@@ -6,7 +6,8 @@ use Rattle.cx_codec.specs.Place.{Place, Reader, Takes, done, bad}
 use Rattle.cx_codec.specs.Fields.{varint_at}
 use Rattle.cx_codec.specs.Varint.{varint}
 use Rattle.cx_codec.proofs.ReadBack.{varint_again, varint_once}
-use Rattle.cx_log.specs.Fields.{checked, varint_between}
+use Rattle.cx_codec.specs.Checks.{checked}
+use Rattle.cx_log.specs.Fields.{varint_between}
 use Rattle.cx_codec.proofs.Composing.{bound}
 use Rattle.cx_log.proofs.Done.{done_pair}
 

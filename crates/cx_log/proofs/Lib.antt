@@ -9,11 +9,10 @@ pub mod Pages
 pub mod Recordings
 pub mod RecordingSizes
 pub mod Words
-pub mod Checked
+pub mod FieldFaults
 pub mod HeaderParts
 pub mod Steps
 pub mod Entries
-pub mod Closing
 pub mod Beginning
 pub mod Items
 pub mod WordTexts

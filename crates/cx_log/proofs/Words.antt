@@ -13,7 +13,7 @@ use Rattle.cx_codec.proofs.Composing.{meets_along}
 use Rattle.cx_codec.proofs.Following.{begins_on, follows_none, follows_on, end_stays}
 use Rattle.cx_log.specs.declared.fault.LogFault.{LogFault}
 use Rattle.cx_log.specs.Fault.{log_met}
-use Rattle.cx_log.specs.Fields.{checked}
+use Rattle.cx_codec.specs.Checks.{checked}
 use Rattle.cx_log.specs.Reading.{words_at, state_words_at}
 
 -- these words, in front of those that are read

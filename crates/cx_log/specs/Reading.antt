@@ -14,7 +14,8 @@ use Rattle.cx_ram.specs.PhysicalMemory.{is_zero}
 use Rattle.cx_log.specs.declared.limits.TheConstants.{STEP_LIMIT}
 use Rattle.cx_log.specs.declared.header.Header.{Header}
 pub use Rattle.cx_log.specs.declared.reading.Announced.{Announced}
-use Rattle.cx_log.specs.Fields.{checked, varint_between}
+use Rattle.cx_codec.specs.Checks.{checked}
+use Rattle.cx_log.specs.Fields.{varint_between}
 use Rattle.cx_log.specs.Text.{magic}
 
 -- the start of an input

@@ -10,7 +10,8 @@ use Rattle.cx_codec.specs.Fields.{bytes_at, byte_at, word_at, varint_at}
 use Rattle.cx_log.specs.declared.limits.TheConstants.{STEP_LIMIT}
 use Rattle.cx_log.specs.declared.kind.Kind.{Kind}
 use Rattle.cx_log.specs.declared.kind.Kind.TheVariants as kind
-use Rattle.cx_log.specs.Fields.{checked, varint_between}
+use Rattle.cx_codec.specs.Checks.{checked}
+use Rattle.cx_log.specs.Fields.{varint_between}
 use Rattle.cx_log.specs.Kind.{kinds, rank_of}
 use Rattle.cx_log.specs.Order.{Behind}
 use Rattle.cx_log.specs.Recording.{Event, Mark, Dma, Lines, Value, Recorded}

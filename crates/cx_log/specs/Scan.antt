@@ -1,6 +1,7 @@
 -- The records of an input, up to End or to the first bad field. No step of a machine occurs here.
 use Rattle.std.specs.Prelude.{ℕ, zero, suc, ◌+◌, ◌==◌, List, [], ◌∷◌, length, min, Option, None, Some, Result, Ok, Err}
 use Rattle.std.specs.Prelude.{if◌then◌else◌}
+use Rattle.cx_codec.specs.Checks.{close_at, fault_of}
 use Rattle.cx_codec.specs.Place.{Place, Reader, ◌>>=◌}
 use Rattle.cx_log.specs.declared.limits.TheConstants.{MOST_TEXT}
 use Rattle.cx_log.specs.Order.{Behind, at_start, behind_it}
@@ -35,15 +36,7 @@ scan_within (suc most) pages behind p = scan_on (scan_within most pages) behind 
 unfoldable pub scan : ℕ → Behind → Place → Scan
 scan pages behind p = scan_within (length p.ahead) pages behind p
 
--- nothing may follow End
-abbrev pub close_at : Reader (Unit {0})
-close_at p = if length p.ahead == 0 then Ok (tt, p) else Err p.at
-
-abbrev pub fault_of : {Y : Type 0} → Result (Y × Place) ℕ → Option ℕ
-fault_of (Ok x) = None
-fault_of (Err o) = Some o
-
--- the first bad field of an input that was scanned
+-- the first bad field of an input that was scanned: nothing may follow End
 abbrev pub bad_field : Result Place ℕ → Option ℕ
 bad_field (Ok p) = fault_of (close_at p)
 bad_field (Err o) = Some o

@@ -9,7 +9,8 @@ ghost use Rattle.cx_codec.specs.Fields.{byte_at, varint_at, word_at};
 ghost use Rattle.cx_codec.specs.Reads.{Goes, Reads, over};
 ghost use Rattle.cx_csr.specs.Rules.{Admits, IsWithin, admits, rule_at};
 ghost use Rattle.cx_log.specs.Fault.{log_met};
-ghost use Rattle.cx_log.specs.Fields.{checked, varint_between};
+ghost use Rattle.cx_codec.specs.Checks.{checked};
+ghost use Rattle.cx_log.specs.Fields.{varint_between};
 ghost use Rattle.cx_log.specs.Reading.{flag_at};
 ghost use Rattle.cx_log.specs.Records.{may_stand};
 

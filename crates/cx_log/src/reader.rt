@@ -9,7 +9,7 @@ ghost use Rattle.cx_log.specs.Fault.{log_met};
 ghost use Rattle.cx_log.specs.Item.{entry_of};
 ghost use Rattle.cx_log.specs.Order.{IsHeader};
 ghost use Rattle.cx_log.specs.Records.{record_at};
-ghost use Rattle.cx_log.specs.Scan.{close_at};
+ghost use Rattle.cx_codec.specs.Checks.{close_at};
 
 use crate::fault::LogFault;
 use crate::header::Header;

@@ -9,7 +9,7 @@ ghost use Rattle.cx_log.specs.Fault.{log_met};
 ghost use Rattle.cx_log.specs.Order.{IsAnnounced, IsHeader};
 ghost use Rattle.cx_log.specs.Reading.{announced_at, second_version_at, state_words_at, header_at, page_bytes_at};
 ghost use Rattle.cx_log.specs.Reading.{page_at};
-ghost use Rattle.cx_log.specs.Scan.{close_at};
+ghost use Rattle.cx_codec.specs.Checks.{close_at};
 
 use crate::fault::LogFault;
 use crate::fields::{flag, state_word, varint_between};

@@ -16,7 +16,8 @@ use Rattle.cx_log.specs.Fault.{log_met}
 use Rattle.cx_log.specs.Item.{MayStand, behind_entry, entry_of, entry_with, is_end}
 use Rattle.cx_log.specs.Order.{behind_it}
 use Rattle.cx_log.specs.Records.{Ends as ends, Entry, Put, record_at}
-use Rattle.cx_log.specs.Scan.{Scan, bad_field, close_at, fault_of, scan, scan_on, scan_within}
+use Rattle.cx_codec.specs.Checks.{close_at, fault_of}
+use Rattle.cx_log.specs.Scan.{Scan, bad_field, scan, scan_on, scan_within}
 use Rattle.cx_log.specs.Text.{record_text}
 use Rattle.cx_log.proofs.RecordOnce.{record_once}
 use Rattle.cx_log.proofs.Scans.{scan_bad, scan_ends, scan_put}

@@ -8,7 +8,8 @@ use Rattle.cx_codec.proofs.Composing.{bound}
 use Rattle.cx_log.specs.Order.{KeepsRules}
 use Rattle.cx_log.specs.Reading.{Opened, opened_at, start_of}
 use Rattle.cx_log.specs.Recording.{Recording}
-use Rattle.cx_log.specs.Scan.{bad_field, close_at, decoded, fault_of, recording_at, records_at, scan_behind}
+use Rattle.cx_codec.specs.Checks.{close_at, fault_of}
+use Rattle.cx_log.specs.Scan.{bad_field, decoded, recording_at, records_at, scan_behind}
 use Rattle.cx_log.specs.Text.{recording_text}
 use Rattle.cx_log.proofs.RecordingSizes.{recording_size}
 use Rattle.cx_log.proofs.Recordings.{recording_again, recording_once, whole_of}

@@ -1,6 +1,6 @@
 -- What comes next in a slice: a group, or the end with nothing behind it.
 use Rattle.std.proofs.Common.{◌≡◌, ℕ, inl, inr, refl, sym, ap, ◌∙◌, IfOk, Result, Ok, Err, IsSome}
-use Rattle.cx_slicefmt.specs.Checks.{close_at}
+use Rattle.cx_codec.specs.Checks.{close_at}
 use Rattle.cx_codec.specs.Place.{Place, Reader, done, end_of, read_on}
 use Rattle.cx_codec.specs.Reads.{Begins, EndsIn, Ends, GivesIn, MayBe, Reads, Standing, always, place_in}
 use Rattle.cx_codec.proofs.Following.{begins_on, follows_on}

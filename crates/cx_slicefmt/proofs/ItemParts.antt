@@ -3,7 +3,7 @@ use Rattle.std.proofs.Common.{◌≡◌, ℕ, suc, ◌<◌, ◌≢◌, arith, re
 use Rattle.std.proofs.Common.{List, [], ◌∷◌, length, eqb, ne_eqb, Option, Result, Ok, Err}
 use Rattle.std.specs.List.{list_all}
 use Rattle.cx_codec.specs.Fields.{varint_at}
-use Rattle.cx_slicefmt.specs.Checks.{checked, is_between}
+use Rattle.cx_codec.specs.Checks.{checked, is_between}
 use Rattle.cx_codec.specs.Place.{Place, Reader, done, read_on}
 use Rattle.cx_slices.specs.Bytes.{Byte}
 use Rattle.cx_slices.specs.Items.{Items, is_nil}

@@ -1,9 +1,3 @@
-pub mod Checked
-pub mod Again
-pub mod Once
-pub mod Midway
-pub mod Sizes
-pub mod Closing
 pub mod Words
 pub mod Runs
 pub mod Heads

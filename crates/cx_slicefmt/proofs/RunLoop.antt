@@ -6,7 +6,7 @@ use Rattle.arrayvec.specs.ArrayVec.{ArrayVec}
 use Rattle.cx_codec.specs.Place.{Place, Reader, done, read_on}
 use Rattle.cx_codec.specs.Reads.{Met, Standing, Reads}
 use Rattle.cx_codec.proofs.Composing.{fails, gives}
-use Rattle.cx_slicefmt.proofs.Midway.{Midway, begin, step, end}
+use Rattle.cx_codec.proofs.Midway.{Midway, begin, step, end}
 use Rattle.cx_slices.specs.Bytes.{Byte}
 use Rattle.cx_slices.specs.Stretches.{Stretch, bytes_from, bytes_of_stretches}
 use Rattle.cx_slicefmt.specs.declared.fault.SliceFault.{SliceFault}

@@ -5,13 +5,13 @@ use Rattle.std.proofs.lemmas.Bool.{leb-true, le-leb, and_from, and_parts}
 use Rattle.std.specs.List.{AllByRecursion}
 use Rattle.std.specs.Int.{w32, to_le_bytes}
 use Rattle.cx_map.specs.Bytes.{AreBytes}
-use Rattle.cx_slicefmt.specs.Again.{Once, ReadsAs}
+use Rattle.cx_codec.specs.Again.{Once, ReadsAs}
 use Rattle.cx_codec.specs.Fields.{bytes_at, varint_at, word_at}
-use Rattle.cx_slicefmt.specs.Checks.{checked, is_between}
+use Rattle.cx_codec.specs.Checks.{checked, is_between}
 use Rattle.cx_codec.specs.Place.{Place, Reader, Takes, done, read_on}
 use Rattle.cx_codec.specs.Varint.{varint}
-use Rattle.cx_slicefmt.proofs.Again.{reads_both, reads_bytes, reads_checked, reads_nothing, reads_then, reads_varint, reads_word}
-use Rattle.cx_slicefmt.proofs.Once.{Part, part, finish, once_bytes, once_checked, once_varint, once_word}
+use Rattle.cx_codec.proofs.Again.{reads_both, reads_bytes, reads_checked, reads_nothing, reads_then, reads_varint, reads_word}
+use Rattle.cx_codec.proofs.Once.{Part, part, finish, once_bytes, once_checked, once_varint, once_word}
 use Rattle.cx_codec.proofs.Texts.{takes_along, takes_both, takes_nothing}
 use Rattle.cx_slices.specs.Bytes.{Byte, BytesRise}
 use Rattle.cx_slices.specs.Items.{IsByteAt}

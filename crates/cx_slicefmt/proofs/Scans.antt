@@ -6,10 +6,10 @@ use Rattle.std.proofs.Common.{length-append, append_assoc, eqb-true}
 use Rattle.std.proofs.lemmas.Bool.{cases_lt}
 use Rattle.std.proofs.lemmas.List.{append-nil}
 use Rattle.cx_map.specs.Bytes.{AreBytes}
-use Rattle.cx_slicefmt.specs.Again.{IsCut, Once, ReadsAs}
-use Rattle.cx_slicefmt.specs.Checks.{close_at, fault_of}
+use Rattle.cx_codec.specs.Again.{IsCut, Once, ReadsAs}
+use Rattle.cx_codec.specs.Checks.{close_at, fault_of}
 use Rattle.cx_codec.specs.Place.{Place, Takes, behind_text, end_of, done, read_on}
-use Rattle.cx_slicefmt.proofs.Again.{CutBehind, first_cut, second_cut}
+use Rattle.cx_codec.proofs.Again.{CutBehind, first_cut, second_cut}
 use Rattle.cx_codec.proofs.Composing.{bound, done_same}
 use Rattle.cx_codec.proofs.Texts.{bytes_behind, takes_both, takes_first, takes_second}
 use Rattle.cx_slices.specs.Groups.{Group, GroupsRise}

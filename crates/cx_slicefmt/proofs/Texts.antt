@@ -4,7 +4,7 @@ use Rattle.std.proofs.Common.{List, [], ◌∷◌, ◌++◌, length, Option, Non
 use Rattle.std.proofs.lemmas.List.{append-nil}
 use Rattle.std.specs.Int.{w32, to_le_bytes}
 use Rattle.cx_codec.specs.Varint.{varint, varint_within}
-use Rattle.cx_slicefmt.proofs.Sizes.{varint_few}
+use Rattle.cx_codec.proofs.Sizes.{varint_few}
 use Rattle.cx_slices.specs.Groups.{Group}
 use Rattle.cx_slices.specs.Items.{Items}
 use Rattle.cx_slices.specs.Stretches.{Stretch, stretches_of}

@@ -3,7 +3,7 @@ use Rattle.std.proofs.Common.{◌≡◌, ℕ, suc, ◌+◌, ◌-◌, ◌^◌, �
 use Rattle.std.proofs.Common.{Option, None, Some, Ok, length-append, append_assoc}
 use Rattle.std.proofs.lemmas.List.{append-nil}
 use Rattle.cx_map.specs.Bytes.{AreBytes}
-use Rattle.cx_slicefmt.specs.Again.{IsCut}
+use Rattle.cx_codec.specs.Again.{IsCut}
 use Rattle.cx_codec.specs.Place.{Place, Takes}
 use Rattle.cx_slices.specs.Groups.{Group}
 use Rattle.cx_slices.specs.Settled.{SliceScan}

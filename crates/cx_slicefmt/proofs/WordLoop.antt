@@ -8,7 +8,7 @@ use Rattle.cx_codec.specs.Fields.{word_at}
 use Rattle.cx_codec.specs.Place.{Place, Reader, done, read_on}
 use Rattle.cx_codec.specs.Reads.{Met, Standing, Reads}
 use Rattle.cx_codec.proofs.Composing.{fails, goes, gives}
-use Rattle.cx_slicefmt.proofs.Midway.{Midway, begin, step, end}
+use Rattle.cx_codec.proofs.Midway.{Midway, begin, step, end}
 use Rattle.cx_slicefmt.specs.declared.fault.SliceFault.{SliceFault}
 use Rattle.cx_slicefmt.specs.Fault.{slice_met}
 use Rattle.cx_slicefmt.specs.Reading.{masked_at, present_at, word_by}

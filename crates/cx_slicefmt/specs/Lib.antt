@@ -1,5 +1,3 @@
-pub mod Checks
-pub mod Again
 pub mod Rules
 pub mod Text
 pub mod Reading

@@ -5,7 +5,7 @@ use Rattle.std.specs.Prelude.{List, [], ◌∷◌, ◌++◌, length, Option, Non
 use Rattle.std.specs.List.{list_all}
 use Rattle.cx_codec.specs.Place.{Reader, ◌>>=◌, done}
 use Rattle.cx_codec.specs.Fields.{bytes_at, byte_at, word_at, varint_at}
-use Rattle.cx_slicefmt.specs.Checks.{checked, close_at, is_between}
+use Rattle.cx_codec.specs.Checks.{checked, close_at, is_between}
 use Rattle.cx_slices.specs.Bytes.{Byte}
 use Rattle.cx_slices.specs.Groups.{Group}
 use Rattle.cx_slices.specs.Items.{Items}

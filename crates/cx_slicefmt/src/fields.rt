@@ -2,7 +2,7 @@
 
 ghost use Rattle.std.specs.Prelude.{◌≡◌, ◌+◌, ◌-◌, ◌<◌, ◌≤◌, ◌^◌, nat_le, IfOk, IsSome, IsTrue, if◌then◌else◌};
 ghost use Rattle.cx_codec.specs.Fields.{byte_at, varint_at, word_at};
-ghost use Rattle.cx_slicefmt.specs.Checks.{checked, is_between};
+ghost use Rattle.cx_codec.specs.Checks.{checked, is_between};
 ghost use Rattle.cx_codec.specs.Reads.{Goes, Reads, over};
 ghost use Rattle.cx_slicefmt.specs.Fault.{slice_met};
 ghost use Rattle.cx_slicefmt.specs.Reading.{given_at, index_at, word_by};

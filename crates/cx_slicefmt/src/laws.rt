@@ -4,8 +4,8 @@ ghost use Rattle.std.specs.Prelude.{◌≡◌, ℕ, suc, ◌+◌, ◌-◌, ◌^�
 ghost use Rattle.std.specs.Prelude.{None, Some, Ok, Err};
 ghost use Rattle.std.specs.List.{AllByRecursion};
 ghost use Rattle.cx_map.specs.Bytes.{AreBytes};
-ghost use Rattle.cx_slicefmt.specs.Again.{IsCut, Once, ReadsAs};
-ghost use Rattle.cx_slicefmt.specs.Checks.{close_at};
+ghost use Rattle.cx_codec.specs.Again.{IsCut, Once, ReadsAs};
+ghost use Rattle.cx_codec.specs.Checks.{close_at};
 ghost use Rattle.cx_codec.specs.Place.{Place, Takes, end_of};
 ghost use Rattle.cx_slices.specs.Groups.{AreGroups, Group, GroupsRise};
 ghost use Rattle.cx_slices.specs.Items.{ItemsFit};

@@ -2,7 +2,7 @@
 
 ghost use Rattle.std.specs.Prelude.{◌≡◌, ◌<◌, ◌≤◌, ◌^◌, ◌&&◌, is_none, IfOk, IsSome, IsTrue};
 ghost use Rattle.std.specs.List.{list_all};
-ghost use Rattle.cx_slicefmt.specs.Checks.{close_at};
+ghost use Rattle.cx_codec.specs.Checks.{close_at};
 ghost use Rattle.cx_codec.specs.Reads.{Ends, Goes, Reads, always, over};
 ghost use Rattle.cx_slices.specs.Items.{is_nil};
 ghost use Rattle.cx_slicefmt.specs.Engine.{entry_in, items_in, least_after};

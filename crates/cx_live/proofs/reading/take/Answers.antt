@@ -1,7 +1,7 @@
 use Rattle.std.proofs.lemmas.Result.{err_from_is_err_and}
 use Rattle.std.proofs.Common.{rules, ◌≡◌, length}
 use Rattle.cx_codec.proofs.Composing.{given_as, refused_as}
-use Rattle.cx_log.proofs.Checked.{met_same}
+use Rattle.cx_log.proofs.FieldFaults.{met_same}
 use Rattle.cx_live.proofs.Vectors.{comes_back}
 use Rattle.cx_live.proofs.reading.take.Goals as goal
 

@@ -1,7 +1,8 @@
 use Rattle.std.proofs.lemmas.Result.{err_from_is_err_and}
 use Rattle.std.proofs.Common.{refl, ap}
 use Rattle.cx_codec.specs.Reads.{BadAt}
-use Rattle.cx_log.proofs.Checked.{met_same, checked_fails, checked_passes, checked_breaks}
+use Rattle.cx_codec.proofs.Checked.{checked_fails, checked_passes, checked_breaks}
+use Rattle.cx_log.proofs.FieldFaults.{met_same}
 use Rattle.std.proofs.lemmas.Bool.{le-leb, lt-leb}
 use Rattle.cx_log.proofs.fields.flag.Goals as goal
 

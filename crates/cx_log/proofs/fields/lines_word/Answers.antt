@@ -1,7 +1,8 @@
 use Rattle.std.proofs.lemmas.Result.{err_from_is_err_and}
 use Rattle.std.proofs.Common.{refl, ap, sym, ◌∙◌}
 use Rattle.cx_codec.specs.Reads.{BadAt}
-use Rattle.cx_log.proofs.Checked.{met_same, checked_fails, checked_passes, checked_breaks}
+use Rattle.cx_codec.proofs.Checked.{checked_fails, checked_passes, checked_breaks}
+use Rattle.cx_log.proofs.FieldFaults.{met_same}
 use Rattle.cx_log.proofs.fields.lines_word.Goals as goal
 
 pub returns-in_err-word-clause-reads : goal.returns-in_err-word-clause-reads

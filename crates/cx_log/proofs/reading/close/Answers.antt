@@ -1,13 +1,14 @@
 use Rattle.std.proofs.lemmas.Result.{err_from_is_err_and}
 use Rattle.std.proofs.Common.{ap}
 use Rattle.cx_codec.specs.Reads.{BadAt}
-use Rattle.cx_log.proofs.Closing.{closes_here, closes_later, close_fails}
+use Rattle.cx_codec.proofs.Closing.{closes_here, closes_later, close_fails}
+use Rattle.cx_log.proofs.FieldFaults.{met_same}
 use Rattle.cx_log.proofs.reading.close.Goals as goal
 
 pub returns-in_err-at_end-clause-ends : goal.returns-in_err-at_end-clause-ends
 returns-in_err-at_end-clause-ends g c told =
     let p = err_from_is_err_and c.from_residual.result c.from_residual.ensures.1 in
-    rw (p.1, p.2) (close_fails _ (c.in_err-at_end.ensures.ends told))
+    rw (p.1, p.2) (close_fails _ _ (met_same _) (c.in_err-at_end.ensures.ends told))
 
 pub returns-then-branch-clause-ends : goal.returns-then-branch-clause-ends
 returns-then-branch-clause-ends g c told =

@@ -3,7 +3,7 @@ use Rattle.std.proofs.Common.{refl, ap, sym, ◌∙◌}
 use Rattle.cx_codec.specs.Reads.{BadAt}
 use Rattle.cx_log.specs.Reading.{page_bytes_at}
 use Rattle.cx_codec.proofs.Composing.{fails, goes, gives, breaks}
-use Rattle.cx_log.proofs.Checked.{met_same}
+use Rattle.cx_log.proofs.FieldFaults.{met_same}
 use Rattle.cx_log.proofs.reading.page_bytes.Goals as goal
 
 pub returns-in_err-take-clause-reads : goal.returns-in_err-take-clause-reads

@@ -1,7 +1,7 @@
 use Rattle.std.proofs.lemmas.Result.{err_from_is_err_and}
 use Rattle.std.proofs.Common.{refl}
 use Rattle.cx_log.specs.Records.{asked_value_at}
-use Rattle.cx_log.proofs.Checked.{met_same}
+use Rattle.cx_log.proofs.FieldFaults.{met_same}
 use Rattle.cx_codec.proofs.Composing.{fails, goes, gives}
 use Rattle.cx_log.proofs.records.value.Goals as goal
 

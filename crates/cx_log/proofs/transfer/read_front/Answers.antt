@@ -2,7 +2,7 @@ use Rattle.std.proofs.Common.{arith, length-take}
 use Rattle.std.proofs.lemmas.List.{take_at}
 use Rattle.std.proofs.lemmas.Result.{err_from_is_err_and}
 use Rattle.cx_codec.proofs.Composing.{refused_as, given_as, as_many}
-use Rattle.cx_log.proofs.Checked.{met_same}
+use Rattle.cx_log.proofs.FieldFaults.{met_same}
 use Rattle.cx_log.proofs.transfer.read_front.Goals as goal
 
 pub returns-in_err-take-clause-reads : goal.returns-in_err-take-clause-reads

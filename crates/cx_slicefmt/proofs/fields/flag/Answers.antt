@@ -1,7 +1,7 @@
 use Rattle.std.proofs.lemmas.Result.{err_from_is_err_and}
 use Rattle.std.proofs.Common.{refl, ap, sym, ◌∙◌}
 use Rattle.cx_codec.specs.Reads.{BadAt}
-use Rattle.cx_slicefmt.proofs.Checked.{checked_fails, checked_passes, checked_breaks}
+use Rattle.cx_codec.proofs.Checked.{checked_fails, checked_passes, checked_breaks}
 use Rattle.cx_slicefmt.proofs.FieldFaults.{met_same}
 use Rattle.cx_slicefmt.proofs.fields.flag.Goals as goal
 

@@ -1,6 +1,6 @@
 use Rattle.std.proofs.Common.{◌≡◌, ◌^◌, ◌<◌, ◌≤◌, length, IsSome, IsTrue}
 use Rattle.cx_codec.specs.Reads.{over}
-use Rattle.cx_slicefmt.proofs.Midway.{Midway}
+use Rattle.cx_codec.proofs.Midway.{Midway}
 use Rattle.cx_slicefmt.specs.Reading.{masked_at}
 use Rattle.cx_slicefmt.proofs.WordLoop.{words_from}
 use Rattle.cx_slicefmt.proofs.masks.masked.Given as goal

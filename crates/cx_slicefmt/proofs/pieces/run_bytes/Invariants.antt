@@ -1,7 +1,7 @@
 use Rattle.std.proofs.Common.{◌≡◌, ◌-◌, ◌*◌, ◌^◌, ◌<◌, ◌≤◌, IsSome, IsTrue}
 use Rattle.arrayvec.specs.ArrayVec.{array_vec_len}
 use Rattle.cx_codec.specs.Reads.{over}
-use Rattle.cx_slicefmt.proofs.Midway.{Midway}
+use Rattle.cx_codec.proofs.Midway.{Midway}
 use Rattle.cx_slicefmt.specs.Engine.{run_bytes_at}
 use Rattle.cx_slicefmt.proofs.RunLoop.{runs_left}
 use Rattle.cx_slicefmt.proofs.pieces.run_bytes.Given as goal

@@ -1,7 +1,7 @@
 use Rattle.std.proofs.lemmas.Result.{err_from_is_err_and}
 use Rattle.std.proofs.Common.{ap}
 use Rattle.cx_codec.specs.Reads.{BadAt}
-use Rattle.cx_slicefmt.proofs.Closing.{closes_here, closes_later, close_fails}
+use Rattle.cx_codec.proofs.Closing.{closes_here, closes_later, close_fails}
 use Rattle.cx_slicefmt.proofs.FieldFaults.{met_same}
 use Rattle.cx_slicefmt.proofs.reading.close.Goals as goal
 

@@ -2,7 +2,7 @@ use Rattle.std.proofs.lemmas.Result.{err_from_is_err_and}
 use Rattle.std.proofs.Common.{refl, ap, sym, ◌∙◌}
 use Rattle.cx_codec.specs.Reads.{BadAt}
 use Rattle.cx_codec.proofs.Composing.{fails, goes, gives, breaks}
-use Rattle.cx_log.proofs.Checked.{met_same}
+use Rattle.cx_log.proofs.FieldFaults.{met_same}
 use Rattle.cx_top.specs.Opening.{kind_at, magic_by}
 use Rattle.cx_top.proofs.open.read_magic.Goals as goal
 

@@ -1,5 +1,6 @@
 -- Fields that have to pass a test, and the end of an input.
-use Rattle.std.specs.Prelude.{ℕ, nat_le, ◌==◌, ◌&&◌, Bool, List, length, if◌then◌else◌, Option, None, Some, Result, Ok, Err}
+use Rattle.std.specs.Prelude.{ℕ, nat_le, ◌==◌, ◌&&◌, Bool, List, length, if◌then◌else◌, Option, None, Some}
+use Rattle.std.specs.Prelude.{Result, Ok, Err}
 use Rattle.cx_codec.specs.Place.{Place, Reader, ◌>>=◌, bad, done, here}
 
 -- nothing may follow

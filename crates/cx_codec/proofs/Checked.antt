@@ -1,18 +1,9 @@
 -- A call that reads a field and tests it.
 use Rattle.std.proofs.Common.{◌≡◌, ℕ, Bool, true, false, cond, refl, Ok, Err}
-use Rattle.cx_codec.specs.declared.fault.BytesFault.{BytesFault}
-use Rattle.cx_codec.specs.declared.fault.BytesFault.TheVariants.{Bad, ReadFault}
-use Rattle.cx_codec.specs.Fault.{bytes_met}
+use Rattle.cx_codec.specs.Checks.{checked}
 use Rattle.cx_codec.specs.Place.{Reader, done, bad}
 use Rattle.cx_codec.specs.Reads.{Met, BadAt, Standing, Reads}
 use Rattle.cx_codec.proofs.Composing.{fails, goes, gives, breaks}
-use Rattle.cx_log.specs.Fault.{log_met, log_fault_of}
-use Rattle.cx_log.specs.Fields.{checked}
-
--- the fault of a field is that of the recording
-pub met_same : (e : BytesFault) → log_met (log_fault_of e) ≡ bytes_met e
-met_same (Bad o) = refl
-met_same ReadFault = refl
 
 abbrev judge : (ℕ → Bool) → ℕ → ℕ → Reader ℕ
 judge test at v = cond {A = Reader ℕ} (test v) (done v) (bad at)

@@ -37,9 +37,9 @@ use Rattle.std.proofs.Common.{
 use Rattle.std.proofs.lemmas.Bool.{lt-ltb, cases_lt, le-ltb}
 use Rattle.std.proofs.lemmas.List.{take-append-drop, take_at, drop_at, length-take-le}
 use Rattle.std.specs.Int.{w32, to_le_bytes}
-use Rattle.cx_slicefmt.specs.Again.{Again, IsCut, ReadsAs}
+use Rattle.cx_codec.specs.Again.{Again, IsCut, ReadsAs}
 use Rattle.cx_codec.specs.Fields.{bytes_at, byte_at, word_at, varint_at, varint_bytes_at}
-use Rattle.cx_slicefmt.specs.Checks.{checked}
+use Rattle.cx_codec.specs.Checks.{checked}
 use Rattle.cx_codec.specs.Place.{Place, Reader, Takes, ◌>>=◌, advance, behind_text, done, end_of, room}
 use Rattle.cx_codec.specs.Varint.{varint, varint_length, varint_within}
 use Rattle.cx_codec.proofs.Parts.{same_place}

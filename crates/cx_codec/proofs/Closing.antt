@@ -5,7 +5,7 @@ use Rattle.cx_codec.specs.declared.fault.BytesFault.{BytesFault}
 use Rattle.cx_codec.specs.declared.fault.BytesFault.TheVariants.{Bad, ReadFault}
 use Rattle.cx_codec.specs.Fault.{bytes_met}
 use Rattle.cx_codec.specs.Fields.{end_at}
-use Rattle.cx_slicefmt.specs.Checks.{close_at}
+use Rattle.cx_codec.specs.Checks.{close_at}
 use Rattle.cx_codec.specs.Place.{Place}
 use Rattle.cx_codec.specs.Reads.{BadAt, Cut, Ends, Met, Standing, always, place_in}
 

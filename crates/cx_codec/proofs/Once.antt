@@ -3,9 +3,9 @@ use Rattle.std.proofs.Common.{◌≡◌, ℕ, ◌^◌, ◌<◌, List, [], ◌∷
 use Rattle.std.proofs.Common.{refl, ap, subst, Ok}
 use Rattle.std.specs.Int.{w32, to_le_bytes}
 use Rattle.cx_map.specs.Bytes.{AreBytes}
-use Rattle.cx_slicefmt.specs.Again.{Once}
+use Rattle.cx_codec.specs.Again.{Once}
 use Rattle.cx_codec.specs.Fields.{bytes_at, byte_at, word_at, varint_at}
-use Rattle.cx_slicefmt.specs.Checks.{checked}
+use Rattle.cx_codec.specs.Checks.{checked}
 use Rattle.cx_codec.specs.Place.{Place, Reader, Takes, bad, done, read_on}
 use Rattle.cx_codec.specs.Varint.{varint}
 use Rattle.cx_codec.proofs.Composing.{bound, done_same}
