@@ -1,7 +1,6 @@
 """A case: a command, its input, and what has to come of it."""
 from dataclasses import dataclass
 
-from recordings import Recording
 from recordings.reading import differences
 from statuses import Status, done, usage
 
@@ -16,8 +15,8 @@ class Case:
 
 
 def spelled(data):
-    """The bytes of a recording; bytes stay as they are, and None is no byte."""
-    return b'' if data is None else data.spell() if isinstance(data, Recording) else data
+    """The bytes of a recording or a slice; bytes stay as they are, and None is no byte."""
+    return b'' if data is None else data if isinstance(data, bytes) else data.spell()
 
 
 def case(name, words, data, status, output=None):

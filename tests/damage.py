@@ -1,5 +1,5 @@
-"""Recordings and images made at random and then damaged: bits, cuts, gaps, repeats, swaps, numbers and words at their
-limits, counts that promise far more than there is, and noise.
+"""Recordings, slices and images made at random and then damaged: bits, cuts, gaps, repeats, swaps, numbers and words at
+their limits, counts that promise far more than there is, and noise.
 
 `pick` is a random.Random everywhere. Damage goes by the fields that an input has up to its first bad place.
 """
@@ -8,7 +8,9 @@ import programs
 from recordings import PAGE, RAM, Lines, Recording, Value, page, reset, word
 from recordings.fields import varint
 from recordings.live import record, seeded
+from recordings.observations import shown
 from recordings.reading import read, read_image
+from recordings.slices import MAGIC, read_slice, sliced
 
 NUMBERS = [0, 1, 2, 127, 128, 4095, 4096, 4097, 65535, 65536, 65537, 1 << 17, (1 << 17) + 1, 1 << 18, (1 << 18) + 1,
            1 << 20, (1 << 20) + 1, 1 << 31, (1 << 32) - 1, 1 << 32, 1 << 40, (1 << 48) - 1, 1 << 48, 1 << 60, 1 << 63,
@@ -16,12 +18,13 @@ NUMBERS = [0, 1, 2, 127, 128, 4095, 4096, 4097, 65535, 65536, 65537, 1 << 17, (1
 SPELLED = [b'\x80\0', b'\x81\x80\0', b'\xff' * 9 + b'\x01', b'\xff' * 9 + b'\x02', b'\x80' * 9, b'\xff' * 20]
 WORDS = [0, 1, 3, 0xff, 0x7fffffff, RAM - 4, RAM, RAM + 4, RAM + PAGE - 1, RAM + (1 << 30) - 1, RAM + (1 << 30),
          0xfffffffc, 0xffffffff]
-COUNTS = ('pages of RAM', 'base', 'pages that follow', 'number of a page', 'sectors', 'bytes of the console')
+COUNTS = ('pages of RAM', 'base', 'pages that follow', 'number of a page', 'sectors', 'bytes of the console',
+          'distance', 'count of runs', 'length of a run')
 
 
 def read_either(data):
-    """The fields of a recording or an image, by its first letters, and the offset of its first bad place."""
-    return (read_image if data[:3] == b'CXI' else read)(data)
+    """The fields of a recording, a slice or an image, by its first letters, and the offset of its first bad place."""
+    return (read_image if data[:3] == b'CXI' else read_slice if data[:4] == MAGIC else read)(data)
 
 
 def fields(data):
@@ -120,7 +123,10 @@ def marked(pick):
 
 def sound(pick, with_images):
     """A good input, and words for a window of it."""
-    kind = pick.choice(['program', 'machine', 'marked', *['image', 'image'] * with_images])
+    kind = pick.choice(['program', 'machine', 'marked', 'slice', *['image', 'image'] * with_images])
+    if kind == 'slice':
+        roots = shown(programs.of_user(pick))
+        return sliced(roots[pick.choice(list(roots))][1]).spell(), (0, 1)
     if kind == 'image':
         return machines.image(pick).spell(), (0, 1)
     if kind == 'machine':

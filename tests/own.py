@@ -1,9 +1,14 @@
-"""Checks of what the tests stand on: the assembler, the spelling and the reader of recordings."""
+"""Checks of what the tests stand on: the assembler, the spelling and the readers, the slicer and the model alone."""
 import pathlib
+import random
 
+import programs
 from recordings import MACHINE, RAM, Dma, Lines, Recording, State, Value, assemble, page, reset
+from recordings.alone import alone
 from recordings.image import Image
+from recordings.observations import shown
 from recordings.reading import read, read_image
+from recordings.slices import read_slice, sliced
 
 EXAMPLE = pathlib.Path(__file__).resolve().parent.parent / 'examples' / 'two_steps.cxr'
 
@@ -102,3 +107,10 @@ def checks():
         reader, bad = read_image(image.spell())
         is_same = bad is None and reader.made_image() == image
         yield f'an image of version {version} is read again', [] if is_same else [f'bad at {bad}, or another image']
+    for root, (_, observed) in shown(programs.of_user(random.Random('own'))).items():
+        made = sliced(observed)
+        reader, bad = read_slice(made.spell())
+        is_same = bad is None and (tuple(reader.groups), reader.end) == (made.groups, made.end)
+        yield f'the slice of the root {root:x} is read again', [] if is_same else [f'bad at {bad}, or another slice']
+        is_same = alone(made.spell()) == (observed, None, None)
+        yield f'the program of the root {root:x} goes alone', [] if is_same else ['it shows something else']

@@ -1,13 +1,15 @@
-"""Recordings made at random: programs in machine mode that compute, branch, load and store, and take no trap."""
+"""Recordings made at random: programs that compute, branch, load and store. Those in machine mode take no trap, and
+those in user mode call a kernel."""
 from recordings import PAGE, RAM, Dma, Lines, Recording, State, page
 from recordings.assembler import IMMEDIATE, REGISTERS
-from recordings.registers import MACHINE, MIE, MPP_MACHINE, MPP_SUPERVISOR, MPRV, WORD
+from recordings.registers import MACHINE, MIE, MPP_MACHINE, MPP_SUPERVISOR, MPRV, USER, WORD
 from recordings.reading import MASKS
 
 # Registers that programs compute with. s3 holds the first place of the data, s4 the mask of a word in it, and s5 the
 # place of such a word, all the time.
 FREE = 'ra sp gp tp t0 t1 t2 s0 s1 a0 a1 a2 a3 a4 a5 a6 a7 s2 t3 t4 t5 t6'.split()
 DATA, DATA_PAGES = 2, 4  # the first page of the data, and how many there are
+KERNEL = DATA + DATA_PAGES  # the page of what is called
 LOADS = [('lb', 1), ('lbu', 1), ('lh', 2), ('lhu', 2), ('lw', 4)]
 STORES = [('sb', 1), ('sh', 2), ('sw', 4)]
 ATOMICS = ['amoswap', 'amoadd', 'amoxor', 'amoand', 'amoor', 'amomin', 'amomax', 'amominu', 'amomaxu', 'sc']
@@ -37,11 +39,12 @@ def piece(pick, next_label):
     return [pick.choice([f'lr.w {one}, (s5)', f'{pick.choice(ATOMICS)}.w {one}, {two}, (s5)'])]
 
 
-def code(pick):
-    """The two pages of a loop of random pieces, which may go over the border between them."""
+def code(pick, calls):
+    """The two pages of a loop of random pieces, which may go over the border between them, with calls or without."""
     lines, count = [], pick.randrange(3, 60)
     for number in range(count):
         lines += [f'p{number}:', *piece(pick, f'p{min(number + 2, count)}')]
+        lines += ['ecall'] if calls and pick.random() < 0.2 else []
     lines += [f'p{count}:', 'j p0']
     at = pick.choice([0, 4 * pick.randrange(900), PAGE - 4 * pick.randrange(1, 40)])
     whole = page('nop') + page('nop')
@@ -82,9 +85,9 @@ def events(pick, start, base, end):
     return tuple(made)
 
 
-def recording(pick, with_events, with_version_2):
+def recording(pick, with_events, with_version_2, calls=False):
     """A recording of up to 400 steps. `pick` is a random.Random."""
-    at, content = code(pick)
+    at, content = code(pick, calls)
     start = start_state(pick, at)
     base = pick.choice([0, 7, pick.randrange(1 << 40)])
     end = base + pick.choice([1, 2, pick.randrange(1, 400)])
@@ -97,3 +100,14 @@ def recording(pick, with_events, with_version_2):
         ram=pick.choice([7, 8, 200]), events=events(pick, start, base, end) if with_events else (), version=version,
         split=version == 2 and pick.random() < 0.5,
     ).marked()
+
+
+def of_user(pick):
+    """The same in user mode, without translation, and longer. At each call the kernel changes the root, a register and
+    a word of the data."""
+    made = recording(pick, True, True, calls=True)
+    one, other = pick.sample([0, 7, pick.getrandbits(31), 0x7fffffff], 2)
+    start = made.start.but(mode=USER, satp=one, sscratch=other, mie=0, medeleg=0, mtvec=RAM + KERNEL * PAGE)
+    return made.but(start=start, end=made.end + 100, memory=made.memory | {KERNEL: page(
+        'csrr s6, mepc', 'addi s6, s6, 4', 'csrw mepc, s6',
+        'csrr s7, satp', 'csrrw s7, sscratch, s7', 'csrw satp, s7', 'sw s7, 0(s5)', 'mret')}).marked()

@@ -67,7 +67,6 @@ CASES = [
          + line(1, ASKED.start.after(1, pc=RAM + 4, a0=7), assemble('j 0')[0])),
     case('a replay that is broken comes behind the whole blocks', 'replay', looped(100).but(events=(Value(50, 7),)),
          broken(50), loop_lines(50)[:len(loop_lines(50)) // BLOCK * BLOCK]),
-    case('the magic of a process slice', 'replay', b'CXP1', not_built(0)),
     case('the magic of a call slice, with more behind it', 'replay', b'CXC1\1\0\0\0', not_built(0)),
     case('a slice that is traced', 'trace all', b'CXP1\1', format_at(0)),
     case('a magic of nothing', 'replay', b'CXS1', format_at(0)),

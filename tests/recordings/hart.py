@@ -18,6 +18,7 @@ PAGE_FAULT = {FETCH: 12, LOAD: 13, RESERVE: 13, STORE: 15, ATOMIC: 15}
 MISALIGNED = {LOAD: 4, RESERVE: 4, STORE: 6, ATOMIC: 6}
 # Bits of an entry of a page table.
 V, R, W, X, U, A, D = (1 << bit for bit in (0, 1, 2, 3, 4, 6, 7))
+COUNTERS = {CONTROL[name]: name for name in ('cycle', 'time', 'instret', 'cycleh', 'timeh', 'instreth')}
 # Interrupts, the first before the others.
 ORDER = (11, 3, 7, 9, 1, 5)
 
@@ -44,6 +45,11 @@ class Hart:
         self.reads = set()  # the pages that were read
         self.stored = None  # the word of a device that this step stored to, and the value
         self.ask = None
+        self.forget()
+
+    def forget(self):
+        """Of the step, so far: the word, what it read and wrote, each an address and bytes, and what it was given."""
+        self.word = self.read = self.written = self.given = None
 
     def state(self):
         named = {f'x{number}': self.registers[number] for number in range(1, 32)}
@@ -57,14 +63,14 @@ class Hart:
 
     def transfer(self, place, content):
         """A device writes bytes to RAM."""
-        at = place - RAM
-        self.memory[at:at + len(content)] = content
+        self.keep(place, content)
         if self.reserved is not None and -len(content) < place - self.reserved < 4:
             self.reserved = None
 
     def step(self, ask):
         """Carries out one step, and says how it ended. `ask` gives the value of a word's place, of time or timeh."""
         self.ask, self.stored, retired = ask, None, False
+        self.forget()
         interrupt = self.due_interrupt()
         if interrupt is not None:
             number, mode = interrupt
@@ -72,7 +78,8 @@ class Hart:
             ended = f'interrupt {number}'
         else:
             try:
-                self.carry_out(self.fetch())
+                self.word = self.fetch()
+                self.carry_out(self.word)
                 ended, retired = 'retired', True
             except Trap as trap:
                 is_delegated = self.mode != MACHINE and self.control['medeleg'] >> trap.cause & 1
@@ -201,6 +208,11 @@ class Hart:
 
     def load(self, va, length, kind=LOAD):
         """The number at an address, which a device may give."""
+        number = self.number_at(va, length, kind)
+        self.read = (va, number.to_bytes(length, 'little'))
+        return number
+
+    def number_at(self, va, length, kind):
         parts = self.places(va, length, kind)
         place = parts[0][0]
         if len(parts) == 2:
@@ -215,14 +227,20 @@ class Hart:
     def store(self, va, length, value):
         parts = self.places(va, length, STORE)
         content = (value % (1 << 8 * length)).to_bytes(length, 'little')
+        self.written = (va, content)
         if not self.is_in_ram(parts[0][0]):
             if length != 4 or parts[0][0] not in WORDS:
                 raise Trap(ACCESS_FAULT[STORE], va)
             self.stored = (parts[0][0], value)
             return
         for place, count in parts:
-            self.memory[place - RAM:place - RAM + count] = content[:count]
+            self.keep(place, content[:count])
             content = content[count:]
+
+    def keep(self, place, content):
+        """Bytes that RAM has from now on."""
+        at = place - RAM
+        self.memory[at:at + len(content)] = content
 
     # Instructions.
 
@@ -298,16 +316,26 @@ class Hart:
         if not self.is_in_ram(place, 4):
             raise Trap(ACCESS_FAULT[kind], a)
         if funct5 == 3:
-            failed, self.reserved = self.reserved != place, None
-            if not failed:
-                self.memory[place - RAM:place - RAM + 4] = b.to_bytes(4, 'little')
-            return int(failed)
+            self.given, self.reserved = self.outcome(place), None
+            if self.given == 0:
+                self.put_word(a, place, b)
+            return self.given
         old = self.loaded(place, 4)
+        self.read = (a, old.to_bytes(4, 'little'))
         if is_reserve:
             self.reserved = place
         else:
-            self.memory[place - RAM:place - RAM + 4] = combine(funct5, old, b).to_bytes(4, 'little')
+            self.put_word(a, place, combine(funct5, old, b))
         return old
+
+    def put_word(self, va, place, value):
+        """What an SC or an atomic operation stores."""
+        self.written = (va, value.to_bytes(4, 'little'))
+        self.keep(place, self.written[1])
+
+    def outcome(self, place):
+        """What an SC puts into its register: 0 where it stores."""
+        return int(self.reserved != place)
 
     def change_control(self, word, a):
         """An instruction on a control register: what it puts into its register."""
@@ -316,14 +344,19 @@ class Hart:
         writes = funct3 % 4 == 1 or source != 0
         if not self.control.is_legal(number, self.mode, writes):
             raise Trap(ILLEGAL, word)
-        if number in (CONTROL['time'], CONTROL['timeh']):
-            return self.ask('time' if number == CONTROL['time'] else 'timeh')
+        if number in COUNTERS:
+            self.given = self.counter(COUNTERS[number])
+            return self.given
         old = self.control.read(number, self.lines)
         if writes:
             base = self.control.operand(number, old)
             value = {1: operand, 2: base | operand, 3: base & ~operand}[funct3 % 4]
             self.control.write(number, value & ALL)
         return old if rd else 0
+
+    def counter(self, name):
+        """What a counter gives that all modes may see."""
+        return self.ask(name) if name in ('time', 'timeh') else self.control.read(CONTROL[name], self.lines)
 
     def system(self, word, next_pc):
         """Calls, returns and fences: the next pc."""

@@ -106,6 +106,7 @@ impl Live {
     /// One turn, whose step is told in a record of the caller's: what the outside does, then a step, which the devices
     /// answer, then the effect of what it stored to a device. Memory is taken first: where it is refused, nothing
     /// changes.
+    #[inline(always)]
     pub fn turn_into(&mut self, out: Outside, rec: &mut StepRec) -> Result<Happened, NoMemory>
         requires on { self.old.live.devices.off ≡ false }
         ensures turn { IfOk result (λ t. live_turn self.old.split out self.old.live ≡ Some (record {

@@ -122,6 +122,8 @@ fn move_from_ram(machine: &Machine, block: &mut Block, buffer: &mut [u8], transf
 }
 
 // What a command moves is moved.
+#[cold]
+#[inline(never)]
 fn move_bytes(
     machine: &mut Machine,
     block: &mut Block,
@@ -174,6 +176,7 @@ fn complete_by(now: bool, machine: &mut Machine, block: &mut Block, buffer: &mut
 }
 
 /// Completes the command of the block device, where the outside lets it be and there is one.
+#[inline(always)]
 pub(crate) fn complete_where(
     now: bool,
     machine: &mut Machine,
@@ -247,6 +250,7 @@ fn try_step<L: Ledger>(machine: &mut Machine, due: Due, rec: &mut StepRec, blank
 }
 
 // The step that asked for this is taken, with what the devices answer.
+#[inline(never)]
 fn step_answered(
     machine: &mut Machine,
     lines: Option<Lines>,
@@ -277,6 +281,7 @@ fn step_answered(
 }
 
 /// Takes the step, told in the record, with what it asks the devices for, and answers that.
+#[inline(always)]
 pub(crate) fn take_step(
     machine: &mut Machine,
     lines: Option<Lines>,
@@ -308,6 +313,7 @@ fn word_of(touch: &Touch) -> u32
 }
 
 // A write takes effect on the devices, if it was to one.
+#[inline(never)]
 fn store_touch(touch: Touch, pages: u32, devices: &mut Devices, block: &mut Block)
     requires { IsBusyInside (size_of_pages pages) block.old }
     ensures devices { devices.new ≡ devices_after_write (Some touch) devices.old }
@@ -320,6 +326,7 @@ fn store_touch(touch: Touch, pages: u32, devices: &mut Devices, block: &mut Bloc
 }
 
 /// What a step wrote takes effect on the devices, where it wrote to one, with RAM of so many pages.
+#[inline(always)]
 pub(crate) fn store_word(write: Option<Touch>, pages: u32, devices: &mut Devices, block: &mut Block)
     requires { IsBusyInside (size_of_pages pages) block.old }
     ensures devices { devices.new ≡ devices_after_write write devices.old }

@@ -1,10 +1,11 @@
 -- Words and bytes in a row, one more at a time, and how long they are.
 use Rattle.std.proofs.Common.{◌≡◌, ℕ, zero, suc, ◌+◌, ◌<◌, List, [], ◌∷◌, ◌++◌, length, take, get_or, refl, ap, ◌∙◌}
-use Rattle.std.proofs.Common.{append-nil}
+use Rattle.std.proofs.Common.{append-nil, append_assoc, arith, drop}
 use Rattle.std.specs.List.{flat_map}
-use Rattle.std.proofs.lemmas.List.{take_more}
+use Rattle.std.proofs.lemmas.List.{take_all, take_more}
 use Rattle.std.proofs.lemmas.List.Concat.{flat_map-append}
 use Rattle.std.proofs.lemmas.Grind.{common_steps}
+use Rattle.cx_observe.specs.Effects.{program_words}
 use Rattle.cx_print.specs.Hex.{hex}
 use Rattle.cx_print.specs.Words.{spaced_words, joined_bytes}
 
@@ -39,3 +40,15 @@ unfolding joined_bytes
 one_more_byte = one_more (hex 2)
 
 pub ruleset in_a_row = (hex_is_as_long, no_words, one_more_word, no_bytes, one_more_byte, common_steps)
+
+-- ---- pc and the registers from 1 on
+
+pub program_in_front : (line : List ℕ) (pc : ℕ) (x : List ℕ) → length x ≡ 32
+    → (line ++ (32 ∷ hex 8 pc)) ++ spaced_words (take 31 (drop 1 x)) ≡ line ++ spaced_words (program_words pc x)
+unfolding spaced_words
+program_in_front line pc [] size = absurd (omega (arith, size))
+program_in_front line pc (r ∷ rs) size =
+    let word = λ (w : ℕ). 32 ∷ hex 8 w in
+    let all : take 31 rs ≡ rs = take_all 31 rs (omega (arith, size)) in
+    append_assoc line (32 ∷ hex 8 pc) (flat_map word (take 31 rs))
+    ∙ ap (λ (ws : List ℕ). line ++ ((32 ∷ hex 8 pc) ++ flat_map word ws)) all

@@ -1,7 +1,8 @@
 //! The parts of a line, each of which is appended to it.
 
 ghost use Rattle.std.specs.Prelude.{◌≡◌, ◌+◌, ◌*◌, ◌≤◌, ◌++◌, length, take};
-ghost use Rattle.cx_print.specs.Lines.{addresses_text, touch_text, first_text, more_text};
+ghost use Rattle.cx_observe.specs.Effects.{program_words};
+ghost use Rattle.cx_print.specs.Lines.{address_text, addresses_text, touch_text, first_text, more_text, seen_text};
 ghost use Rattle.cx_print.specs.Lines.{ended_text, fetch_text, value_text};
 ghost use Rattle.cx_print.specs.Words.{joined_bytes, spaced_words};
 ghost use Rattle.cx_print.specs.declared.line.TheConstants.{LINE_CAPACITY};
@@ -9,6 +10,7 @@ ghost use Rattle.cx_print.specs.declared.line.TheConstants.{LINE_CAPACITY};
 use crate::hex::{byte_digits, spaced_word, word_digits};
 use crate::text::ShortText;
 use cx_hart::{Ended, Touch};
+use cx_observe::{Obs, Seen};
 
 /// The most bytes that a line takes: that of a step which ended in an interrupt and has two pieces of each access.
 pub const LINE_CAPACITY: usize = 742;
@@ -40,16 +42,24 @@ fn put_bytes(line: &mut Line, bytes: &[u8])
     }
 }
 
+/// Appends an address, with what it is divided from the next part by.
+fn put_address(line: &mut Line, address: u32)
+    requires { length line.old + 9 ≤ LINE_CAPACITY }
+    ensures text { line.new ≡ line.old ++ address_text address }
+    ensures room { length line.new ≡ length line.old + 9 }
+{
+    line.push_bytes(&word_digits(address));
+    line.push_bytes(b":");
+}
+
 /// Appends where a stretch of bytes begins.
 fn put_addresses(line: &mut Line, touch: &Touch)
     requires { length line.old + 18 ≤ LINE_CAPACITY }
     ensures text { line.new ≡ line.old ++ addresses_text touch.now }
     ensures room { length line.new ≡ length line.old + 18 }
 {
-    line.push_bytes(&word_digits(touch.va));
-    line.push_bytes(b":");
-    line.push_bytes(&word_digits(touch.pa));
-    line.push_bytes(b":");
+    put_address(line, touch.va);
+    put_address(line, touch.pa);
 }
 
 /// Appends a stretch of bytes.
@@ -111,7 +121,7 @@ pub(crate) fn put_fetch(line: &mut Line, fetch: &Option<Touch>)
     }
 }
 
-/// Appends the value of the outside.
+/// Appends the value of the outside, or what an SC or a counter gave.
 pub(crate) fn put_value(line: &mut Line, value: Option<u32>)
     requires { length line.old + 8 ≤ LINE_CAPACITY }
     ensures text { line.new ≡ line.old ++ value_text value }
@@ -139,5 +149,37 @@ pub(crate) fn put_ended(line: &mut Line, ended: Ended)
             line.push_bytes(b"interrupt ");
             line.push_number(number);
         }
+    }
+}
+
+/// Appends pc and the registers from 1 on, each behind a space.
+pub(crate) fn put_program(line: &mut Line, obs: &Obs)
+    requires { length line.old + 288 ≤ LINE_CAPACITY }
+    ensures text { line.new ≡ line.old ++ spaced_words (program_words obs.now.pc obs.now.x) }
+    ensures room { length line.new ≡ length line.old + 288 }
+{
+    line.push_bytes(&spaced_word(obs.pc));
+    put_words(line, &obs.x[1..]);
+}
+
+/// Appends an access of a program.
+fn put_access_seen(line: &mut Line, seen: &Seen)
+    requires { length line.old + 17 ≤ LINE_CAPACITY }
+    ensures text { line.new ≡ line.old ++ address_text seen.now.va ++ joined_bytes (take seen.now.len seen.now.bytes) }
+    ensures room { length line.new ≤ length line.old + 17 }
+{
+    put_address(line, seen.va);
+    put_bytes(line, &seen.bytes[..(seen.len as usize).min(4)]);
+}
+
+/// Appends what a program read or wrote.
+pub(crate) fn put_seen(line: &mut Line, seen: &Option<Seen>)
+    requires { length line.old + 17 ≤ LINE_CAPACITY }
+    ensures text { line.new ≡ line.old ++ seen_text seen.now }
+    ensures room { length line.new ≤ length line.old + 17 }
+{
+    match seen {
+        None => line.push_bytes(b"-"),
+        Some(seen) => put_access_seen(line, seen),
     }
 }

@@ -1,16 +1,19 @@
 -- What is known goes on by a step.
 use Rattle.std.proofs.Common.{◌≡◌, ℕ, suc, ◌+◌, ◌^◌, ◌≤◌, ◌==◌, ◌&&◌, Bool, true, false, not, List, [], ◌∷◌, ◌++◌, length, Option, None, Some}
-use Rattle.std.proofs.Common.{is_none, if◌then◌else◌, refl, sym, ap, ◌∙◌, arith, eq-eqb}
+use Rattle.std.proofs.Common.{is_none, if◌then◌else◌, refl, sym, ap, subst, ◌∙◌, arith, eq-eqb}
+use Rattle.std.proofs.Math.Logic.{∥∥₁_elim}
 use Rattle.std.proofs.lemmas.Bool.{and_from}
+use Rattle.std.proofs.lemmas.List.{append-nil}
 use Rattle.std.specs.List.{list_all}
 use Rattle.std.specs.Option.{option_or}
+use denote.Struct.Props.{props}
 use Rattle.cx_observe.proofs.Fitting.{first_group}
 use Rattle.cx_observe.proofs.Sights.{Shows-sorted}
 use Rattle.cx_observe.specs.Effects.{next_words, program_words}
 use Rattle.cx_observe.specs.Seeing.{bytes_shown, seen_by, sights}
 use Rattle.cx_observe.specs.User.{user}
 use Rattle.cx_observe.specs.declared.obs.Obs.{Obs}
-use Rattle.cx_process.specs.Slicing.{IsSlicing, added_text, step_text}
+use Rattle.cx_process.specs.Slicing.{IsForSome, IsSlicing, added_text, step_text}
 use Rattle.cx_program.specs.Knowing.{IsKnown}
 use Rattle.cx_slicefmt.specs.Rules.{IsEnd}
 use Rattle.cx_slicefmt.specs.Text.{group_text, groups_text, least_behind, slice_body, slice_end_text, slice_magic}
@@ -149,6 +152,25 @@ in_order os w n least was =
     = least_below 0 (length os) (groups_of user os) (omega arith) (groups_are_below user os) in
     omega (arith, most, was.least_is, was.count_is)
 
+-- The same, where it is only known that it stands for some observations.
+pub in_order_of_some : (w : Known) (n least : ℕ) → IsForSome w n least → least ≤ n
+in_order_of_some w n least some = ∥∥₁_elim some (search props) (λ x. in_order x.0 w n least x.1)
+
+-- as it was, by other names
+pub same_for_some : (w v : Known) (n least same : ℕ) → IsForSome w n least → v ≡ w → same ≡ least → IsForSome v n same
+same_for_some w v n least same some known is =
+    subst (λ (k : Known). IsForSome k n same) (sym known) (subst (λ (l : ℕ). IsForSome w n l) (sym is) some)
+
+-- A step from its room on: it sees, and leaves what it writes.
+pub slices_step : (o : Obs) (w held seen behind : Known) (n least now : ℕ) → held ≡ w
+    → now ≡ least_behind least (groups_from n (items_at user held o ∷ []))
+    → seen ≡ record { words = held.words; map = with_bytes (seen_by o) held.map }
+    → behind ≡ record { words = next_words o; map = with_bytes (bytes_shown o.write) seen.map }
+    → (os : List Obs) → IsSlicing os w n least → IsSlicing (os ++ o ∷ []) behind (n + 1) now
+slices_step o w held seen behind n least now known last saw left os was =
+    slices_on os o held behind n (n + 1) least now (subst (λ (k : Known). IsSlicing os k n least) (sym known) was)
+    (goes_behind held o seen behind saw left) refl last
+
 -- ---- the end
 
 least_grows : (k : ℕ) (gs : List (Group ℕ)) → GroupsRise k gs → k ≤ least_behind k gs
@@ -178,6 +200,12 @@ can_end os w n least was some most =
       most = most;
     }
 
+pub can_end_of_some : (w : Known) (n least : ℕ) → IsForSome w n least → 1 ≤ n → n ≤ 2 ^ 48
+    → IsEnd least n
+can_end_of_some w n least stands some most =
+    let behind : 1 ≤ least = ∥∥₁_elim stands (search props) (λ x. (can_end x.0 w n least x.1 some most).behind) in
+    record { behind = behind; from = in_order_of_some w n least stands; most = most }
+
 pub end_is : (os : List Obs) (w : Known) (n least : ℕ) → IsSlicing os w n least
     → slice_end_text least n ≡ slice_end_text (least_behind 0 (groups_of user os)) (length os)
 end_is os w n least was = ap (λ (l : ℕ). slice_end_text l n) was.least_is
@@ -195,6 +223,10 @@ groups_text-append least [] hs = refl
 groups_text-append least (g ∷ gs) hs = ap (λ t. group_text least g ++ t) (groups_text-append (suc g.index) gs hs)
     ∙ sym (append_assoc (group_text least g) (groups_text (suc g.index) gs)
     (groups_text (least_behind (suc g.index) gs) hs))
+
+pub body_begins : slice_body (groups_of user []) ≡ slice_magic
+unfolding slice_body
+body_begins = append-nil slice_magic
 
 pub body_grows : (os : List Obs) (o : Obs)
     → slice_body (groups_of user (os ++ o ∷ [])) ≡ slice_body (groups_of user os) ++ added_text os o

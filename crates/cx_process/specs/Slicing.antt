@@ -1,7 +1,5 @@
 -- What a slicer stands for.
-use Rattle.std.specs.Prelude.{◌≡◌, ℕ, List, [], ◌∷◌, length, Result, Err}
-use Rattle.cx_codec.specs.declared.fault.OutFault.{OutFault}
-use Rattle.cx_codec.specs.declared.fault.OutFault.TheVariants.{NoMemory}
+use Rattle.std.specs.Prelude.{◌≡◌, ℕ, List, [], ◌∷◌, length}
 use Rattle.cx_observe.specs.User.{user}
 use Rattle.cx_observe.specs.declared.obs.Obs.{Obs}
 use Rattle.cx_slicefmt.specs.Text.{groups_text, least_behind}
@@ -14,6 +12,10 @@ pub record IsSlicing (os : List Obs) (w : Known) (count least : ℕ) : Type 0 wh
   pub count_is : count ≡ length os
   pub least_is : least ≡ least_behind 0 (groups_of user os)
 
+-- the same for some observations
+abbrev pub IsForSome : Known → ℕ → ℕ → Type 0
+IsForSome w count least = ∥ ((os : List Obs) × IsSlicing os w count least) ∥₁
+
 -- the text of one step, where its items have to be spelled
 abbrev pub step_text : ℕ → ℕ → Known → Obs → List ℕ
 step_text least count w o = groups_text least (groups_from count (items_at user w o ∷ []))
@@ -21,12 +23,3 @@ step_text least count w o = groups_text least (groups_from count (items_at user 
 -- what an observation more adds to the slice of those before it
 abbrev pub added_text : List Obs → Obs → List ℕ
 added_text os o = step_text (least_behind 0 (groups_of user os)) (length os) (known_at user (start user) os) o
-
--- Room was refused, and nothing has changed.
-pub record IsRoomRefused {S : Type 0} (result : Result (Unit {0}) OutFault) (old new : Known) (count count_now : ℕ)
-    (least least_now : ℕ) (sink sink_now : S) : Type 0 where
-  pub answer : result ≡ Err NoMemory
-  pub known : new ≡ old
-  pub count_same : count_now ≡ count
-  pub least_same : least_now ≡ least
-  pub sink_same : sink_now ≡ sink

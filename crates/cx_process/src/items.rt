@@ -53,7 +53,8 @@ fn missing(shadow: &Shadow, bytes: &[(u32, u8)]) -> ArrayVec<(u32, u8), 64>
 
 /// The items of a step.
 pub(crate) fn items(standing: &Standing, obs: &Obs) -> GroupItems
-    ensures { items_in result ≡ items_at user (known_by standing.now) obs.now }
+    ensures items { items_in result ≡ items_at user (known_by standing.now) obs.now }
+    ensures words { length result.words ≡ 32 }
 {
     let seen = bytes_seen(obs);
     GroupItems {
@@ -80,11 +81,4 @@ pub(crate) fn are_none(items: &GroupItems) -> bool
     ensures { result ≡ are_none (items_in items.now) }
 {
     no_words(&items.words) && items.bytes.is_empty() && items.given.is_none()
-}
-
-/// Tells that there is an item, or none, for each word.
-pub(crate) fn are_counted(words: &[Option<u32>; 32])
-    ensures { length words.now ≡ 32 }
-{
-    let _ = words;
 }

@@ -1,11 +1,9 @@
 //! The slicer of a process: observations in, the text of their slice out.
 #![tactic(auto)]
 
-mod groups;
 mod items;
 mod laws;
 mod slicer;
 
-pub use groups::Groups;
 pub use laws::slices_grow_by_what_is_added;
 pub use slicer::Slicer;

@@ -1,56 +1,61 @@
 //! The slicer.
 
-ghost use Rattle.std.specs.Prelude.{◌≡◌, ◌+◌, ◌<◌, ◌≤◌, ◌^◌, ◌⊎◌, ◌++◌, ℕ, List, [], ◌∷◌, length, true, IsTrue, OnOk};
-ghost use Rattle.cx_codec.specs.Puts.{Finishes, Puts, onto};
+ghost use Rattle.std.specs.Prelude.{◌≡◌, ◌+◌, ◌<◌, ◌≤◌, ◌^◌, ◌⊎◌, ◌++◌, ℕ, List, [], ◌∷◌, length, true};
+ghost use Rattle.std.specs.Prelude.{IfOk, IsTrue, OnErr, OnOk};
+ghost use Rattle.cx_codec.specs.Puts.{Finishes, Puts, Starts, onto};
 ghost use Rattle.cx_observe.specs.Possible.{Possible};
 ghost use Rattle.cx_observe.specs.Seeing.{seen_by};
 ghost use Rattle.cx_observe.specs.User.{user};
 ghost use Rattle.cx_observe.specs.declared.obs.Obs.{Obs};
-ghost use Rattle.cx_process.specs.Slicing.{IsRoomRefused, IsSlicing, added_text, step_text};
+ghost use Rattle.cx_process.specs.Slicing.{IsForSome, added_text, step_text};
 ghost use Rattle.cx_program.specs.Knowing.{HasRoom, IsByStep, known_by};
 ghost use Rattle.cx_shadow.specs.Cells.{byte_of, is_held};
-ghost use Rattle.cx_slicefmt.specs.Text.{least_behind, slice_end_text};
+ghost use Rattle.cx_slicefmt.specs.Text.{least_behind, slice_end_text, slice_magic};
 ghost use Rattle.cx_slices.specs.Bytes.{with_bytes};
 ghost use Rattle.cx_slices.specs.Groups.{groups_from, groups_of};
 ghost use Rattle.cx_slices.specs.Items.{items_at};
 
-use crate::groups::Groups;
-use crate::items::{are_counted, are_none, items};
+use crate::items::{are_none, items};
 use cx_codec::OutFault;
 use cx_io::Sink;
 use cx_observe::Obs;
 use cx_program::Standing;
+use cx_slicefmt::GroupWriter;
 use std::alloc::Global;
 
-/// The slicer of a process. It stands for the observations that it was fed: it has put the text of their slice without
-/// its end. After a refusal of its writer it has ended.
+/// The slicer of a process. It stands for the observations that it was fed, of which it keeps none: it has put the text
+/// of their slice without its end. After a refusal of its writer it has ended, and the sink holds a front of what was
+/// put; where room for an observation is refused it goes on. `WriteFault` comes only where the sink's count of faults
+/// rose, and `NoMemory` where memory is refused, to it or by the sink.
 #[derive(Drop)]
-pub struct Slicer<W> {
+pub struct Slicer {
     standing: Standing,
     count: u64,
-    groups: W,
+    groups: GroupWriter,
+    ghost slicing: { IsForSome (known_by standing) count groups.least },
+    ghost most: { count ≤ 2 ^ 48 },
 }
 
 // Puts the group of a step, where it has items.
-fn put_items<W: Groups, T: Sink>(
-    groups: &mut W,
+fn put_items<T: Sink>(
+    groups: &mut GroupWriter,
     standing: &Standing,
     count: u64,
     obs: &Obs,
     sink: &mut T,
 ) -> Result<(), OutFault>
-    requires live { IsTrue (W.output groups.old).live }
+    requires live { IsTrue groups.old.output.live }
     requires possible { Possible obs.now }
-    requires order { W.least groups.old ≤ count }
+    requires order { groups.old.least ≤ count }
     requires most { count < 2 ^ 48 }
-    ensures puts { Puts OutFault.WriteFault (step_text (W.least groups.old) count (known_by standing.now) obs.now)
-        (onto (W.output groups.old) (T.held sink.old) (T.faults sink.old))
-        (onto (W.output groups.new) (T.held sink.new) (T.faults sink.new)) result }
-    ensures least { OnOk result (W.least groups.new
-        ≡ least_behind (W.least groups.old) (groups_from count (items_at user (known_by standing.now) obs.now ∷ []))) }
+    ensures puts { Puts OutFault.WriteFault (step_text groups.old.least count (known_by standing.now) obs.now)
+        (onto groups.old.output (T.held sink.old) (T.faults sink.old))
+        (onto groups.new.output (T.held sink.new) (T.faults sink.new)) result }
+    ensures least { OnOk result (groups.new.least
+        ≡ least_behind groups.old.least (groups_from count (items_at user (known_by standing.now) obs.now ∷ []))) }
+    ensures refused { OnErr result (groups.new.least ≡ groups.old.least) }
 {
     let items = items(standing, obs);
-    are_counted(&items.words);
     if are_none(&items) {
         return Ok(());
     }
@@ -58,28 +63,30 @@ fn put_items<W: Groups, T: Sink>(
 }
 
 // Puts the group of a step, where it has items, and learns the bytes that the step saw.
-fn learn<W: Groups, T: Sink>(
-    groups: &mut W,
+fn learn<T: Sink>(
+    groups: &mut GroupWriter,
     standing: &mut Standing,
     count: u64,
     obs: &Obs,
     sink: &mut T,
 ) -> Result<(), OutFault>
-    requires live { IsTrue (W.output groups.old).live }
+    requires live { IsTrue groups.old.output.live }
     requires possible { Possible obs.now }
-    requires order { W.least groups.old ≤ count }
+    requires order { groups.old.least ≤ count }
     requires most { count < 2 ^ 48 }
     requires room { HasRoom standing.old.shadow obs.now }
-    ensures puts { Puts OutFault.WriteFault (step_text (W.least groups.old) count (known_by standing.old) obs.now)
-        (onto (W.output groups.old) (T.held sink.old) (T.faults sink.old))
-        (onto (W.output groups.new) (T.held sink.new) (T.faults sink.new)) result }
-    ensures least { OnOk result (W.least groups.new
-        ≡ least_behind (W.least groups.old) (groups_from count (items_at user (known_by standing.old) obs.now ∷ []))) }
+    ensures puts { Puts OutFault.WriteFault (step_text groups.old.least count (known_by standing.old) obs.now)
+        (onto groups.old.output (T.held sink.old) (T.faults sink.old))
+        (onto groups.new.output (T.held sink.new) (T.faults sink.new)) result }
+    ensures least { OnOk result (groups.new.least
+        ≡ least_behind groups.old.least (groups_from count (items_at user (known_by standing.old) obs.now ∷ []))) }
     ensures known { OnOk result (known_by standing.new ≡ record {
       words = standing.old.words;
       map = with_bytes (seen_by obs.now) (byte_of standing.old.shadow);
     }) }
     ensures room { OnOk result (HasRoom standing.new.shadow obs.now) }
+    ensures refused { OnErr result (groups.new.least ≡ groups.old.least) }
+    ensures stays { OnErr result (known_by standing.new ≡ known_by standing.old) }
     ensures holds { (a : ℕ) → is_held standing.new.shadow a ≡ is_held standing.old.shadow a }
 {
     if standing.has(obs) {
@@ -90,18 +97,28 @@ fn learn<W: Groups, T: Sink>(
     Ok(())
 }
 
-impl<W: Groups> Slicer<W> {
-    /// A slicer that was fed nothing, over a writer that has written no group.
-    pub fn new(alloc: Global, groups: W) -> Slicer<W>
-        requires { W.least groups ≡ 0 }
-        ensures stands { IsSlicing [] (known_by result.standing) result.count (W.least result.groups) }
-        ensures groups { result.groups ≡ groups }
+impl Slicer {
+    ghost use Rattle.cx_process.specs.Stands.{HasTaken, IsRoomRefused, output_of};
+
+    /// Begins a slice: puts its magic. It was fed nothing.
+    pub fn new<T: Sink>(alloc: Global, sink: &mut T) -> Result<Slicer, OutFault>
+        ensures starts { Starts OutFault.WriteFault slice_magic output_of
+            (T.held sink.old) (T.held sink.new) (T.faults sink.old) (T.faults sink.new) result }
+        ensures stands { IfOk result (HasTaken []) }
     {
-        Slicer {
+        let groups = GroupWriter::start(alloc, sink)?;
+        Ok(Slicer {
             standing: Standing::new(alloc),
             count: 0,
             groups,
-        }
+        })
+    }
+
+    /// Whether it goes on: it does until its writer is refused.
+    pub fn live(&self) -> bool
+        ensures { result ≡ (output_of self.now).live }
+    {
+        self.groups.live()
     }
 
     /// How many observations it was fed.
@@ -111,25 +128,18 @@ impl<W: Groups> Slicer<W> {
         self.count
     }
 
-    /// Takes the next observation. Where room is refused, nothing has changed. The room for it is on at most three
-    /// pages.
+    /// Takes the next observation, and puts its group where it has items. Where room is refused, nothing has changed.
+    /// The room for it is on at most three pages.
     pub fn feed<T: Sink>(&mut self, obs: &Obs, sink: &mut T) -> Result<(), OutFault>
-        requires live { IsTrue (W.output self.old.groups).live }
+        requires live { IsTrue (output_of self.old).live }
         requires possible { Possible obs.now }
         requires most { self.old.count < 2 ^ 48 }
-        requires slicing { (os : List Obs) × IsSlicing os (known_by self.old.standing) self.old.count
-            (W.least self.old.groups) }
-        ensures stands { (os : List Obs)
-            → IsSlicing os (known_by self.old.standing) self.old.count (W.least self.old.groups)
-            → OnOk result (IsSlicing (os ++ obs.now ∷ []) (known_by self.new.standing) self.new.count
-            (W.least self.new.groups)) }
-        ensures puts { (os : List Obs)
-            → IsSlicing os (known_by self.old.standing) self.old.count (W.least self.old.groups)
-            → IsRoomRefused result (known_by self.old.standing) (known_by self.new.standing) self.old.count
-            self.new.count (W.least self.old.groups) (W.least self.new.groups) sink.old sink.new
+        ensures stands { (os : List Obs) → HasTaken os self.old → OnOk result (HasTaken (os ++ obs.now ∷ []) self.new) }
+        ensures puts { (os : List Obs) → HasTaken os self.old
+            → IsRoomRefused result self.old self.new sink.old sink.new
             ⊎ Puts OutFault.WriteFault (added_text os obs.now)
-            (onto (W.output self.old.groups) (T.held sink.old) (T.faults sink.old))
-            (onto (W.output self.new.groups) (T.held sink.new) (T.faults sink.new)) result }
+            (onto (output_of self.old) (T.held sink.old) (T.faults sink.old))
+            (onto (output_of self.new) (T.held sink.new) (T.faults sink.new)) result }
         ensures count { OnOk result (self.new.count ≡ self.old.count + 1) }
         ensures keeps { (a : ℕ) → is_held self.old.standing.shadow a ≡ true
             → is_held self.new.standing.shadow a ≡ true }
@@ -143,15 +153,13 @@ impl<W: Groups> Slicer<W> {
         Ok(())
     }
 
-    /// Ends the slice. It was fed one observation at least.
+    /// Puts the end of the slice, and hands all to the sink. It was fed one observation at least.
     pub fn end<T: Sink>(self, sink: &mut T) -> Result<(), OutFault>
-        requires live { IsTrue (W.output self.groups).live }
+        requires live { IsTrue (output_of self).live }
         requires some { 1 ≤ self.count }
-        requires most { self.count ≤ 2 ^ 48 }
-        requires slicing { (os : List Obs) × IsSlicing os (known_by self.standing) self.count (W.least self.groups) }
-        ensures { (os : List Obs) → IsSlicing os (known_by self.standing) self.count (W.least self.groups)
+        ensures { (os : List Obs) → HasTaken os self
             → Finishes OutFault.WriteFault (slice_end_text (least_behind 0 (groups_of user os)) (length os))
-            (onto (W.output self.groups) (T.held sink.old) (T.faults sink.old)) (T.held sink.new) (T.faults sink.new)
+            (onto (output_of self) (T.held sink.old) (T.faults sink.old)) (T.held sink.new) (T.faults sink.new)
             result }
     {
         self.groups.end(self.count, sink)

@@ -3,3 +3,4 @@ pub mod Numbers
 pub mod Rising
 pub mod Shown
 pub mod Pages
+pub mod Fetched

@@ -4,11 +4,14 @@
 
 mod answers;
 mod bytes;
+mod reading;
 mod room;
 mod sorting;
 mod standing;
+mod stepping;
 mod words;
 
 pub use bytes::{Bytes, bytes_seen, bytes_written};
 pub use standing::{Standing, has_byte};
+pub use stepping::step;
 pub use words::{next_words, words_told};

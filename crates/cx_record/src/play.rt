@@ -14,6 +14,7 @@ use cx_live::Live;
 use cx_log::LogWriter;
 
 /// Takes turns up to the last of the steps, or to the one that turns the machine off; answers how many.
+#[inline(never)]
 pub(crate) fn play<W: World, T: Sink>(
     live: &mut Live,
     writer: &mut LogWriter,

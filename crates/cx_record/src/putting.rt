@@ -127,6 +127,7 @@ fn put_value<T: Sink>(
 }
 
 /// Puts the records of a step, to which this was due, with these bytes of the block device.
+#[inline(always)]
 pub(crate) fn put_step<T: Sink>(
     step: u64,
     happened: &Happened,

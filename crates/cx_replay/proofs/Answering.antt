@@ -5,6 +5,7 @@ use Rattle.std.proofs.Common.{Ok, Err, inl, inr, refl, ap, sym, ◌∙◌, arith
 use Rattle.std.specs.Option.{option_map}
 use Rattle.cx_hart.specs.HartStep.{hart_step}
 use Rattle.cx_hart.specs.Whole.{Whole, machine_of}
+use Rattle.cx_hart.specs.WellFormed.{IsWellFormed}
 use Rattle.cx_hart.specs.declared.record.StepRec.{StepRec}
 use Rattle.cx_log.specs.Reading.{Opened}
 use Rattle.cx_log.specs.Scan.{Scan}
@@ -129,7 +130,13 @@ told_arrives told (Ok false) o whole given m p bytes Has due end may cut arrives
 told_arrives told (Err e) o whole given m p bytes Has due end may cut arrives = arrives
 
 pub told_formed : (told : StepRec) (r : Result Bool ReplayFault) → IsFormed (λ rec. told ≡ rec) r
-    → IfOk r (λ gave. OnTrue gave (told.walked ≤ 6))
+    → IfOk r (λ gave. OnTrue gave (IsWellFormed told))
 told_formed told (Ok true) formed = rw formed.1.0 formed.1.1
 told_formed told (Ok false) formed = tt
 told_formed told (Err e) formed = tt
+
+pub told_walked : (told : StepRec) (r : Result Bool ReplayFault) → IsFormed (λ rec. told ≡ rec) r
+    → IfOk r (λ gave. OnTrue gave (told.walked ≤ 6))
+told_walked told (Ok true) formed = rw formed.1.0 formed.1.1.walked
+told_walked told (Ok false) formed = tt
+told_walked told (Err e) formed = tt

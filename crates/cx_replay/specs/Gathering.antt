@@ -3,6 +3,7 @@ use Rattle.std.specs.Prelude.{◌≡◌, ◌⊎◌, ℕ, ◌<◌, ◌≤◌, Boo
 use Rattle.std.specs.Prelude.{Err}
 use Rattle.cx_hart.specs.declared.answer.Went.{Went}
 use Rattle.cx_hart.specs.declared.answer.Went.TheVariants as went
+use Rattle.cx_hart.specs.WellFormed.{IsWellFormed}
 use Rattle.cx_hart.specs.declared.record.StepRec.{StepRec}
 use Rattle.cx_log.specs.Scan.{Scan, bad_field}
 use Rattle.cx_machine.specs.Due.{Due, IsDue}
@@ -99,8 +100,8 @@ abbrev pub TakesStep : {E : Type 0} → Option (Stepped StepRec) → (Known : St
 TakesStep outcome Known machine (Ok carried) = IsCarriedOut outcome Known machine carried
 TakesStep outcome Known machine (Err e) = Unit {0}
 
--- of a record of which this is known, the entries of page tables are as many as a step can read
+-- a record of which this is known is well formed
 abbrev pub IsFormed : (Known : StepRec → Type 0) → Result Bool ReplayFault → Type 0
-IsFormed Known (Ok true) = (rec : StepRec) × (Known rec × (rec.walked ≤ 6))
+IsFormed Known (Ok true) = (rec : StepRec) × (Known rec × IsWellFormed rec)
 IsFormed Known (Ok false) = Unit {0}
 IsFormed Known (Err e) = Unit {0}

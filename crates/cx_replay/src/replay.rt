@@ -7,6 +7,7 @@ ghost use Rattle.cx_codec.specs.Place.{end_of};
 ghost use Rattle.cx_codec.specs.Reads.{Begins};
 ghost use Rattle.cx_csr.specs.Keeps.{Keeps};
 ghost use Rattle.cx_hart.specs.Whole.{IsLive, machine_at, machine_of};
+ghost use Rattle.cx_hart.specs.WellFormed.{IsWellFormed};
 ghost use Rattle.cx_hart.specs.declared.record.StepRec.{StepRec};
 ghost use Rattle.cx_io.specs.Cause.{HasCause};
 ghost use Rattle.cx_log.specs.Reading.{Opened};
@@ -216,7 +217,7 @@ impl<R: Records> Replay<R> {
     /// ended. `Format` and `Broken` come exactly by the first bad place of the input, once all steps were given that
     /// its records settle before. `ReadFault` comes only where the source's count of faults rose; what the source gave
     /// settles no step that wasn't given. `NoMemory` is free.
-    #[tactic(auto, using(crate::proofs::Answering::told_formed))]
+    #[tactic(auto, using(crate::proofs::Answering::told_formed, crate::proofs::Answering::told_walked))]
     pub fn next_into<S: Source>(
         &mut self,
         rec: &mut StepRec,
@@ -237,7 +238,8 @@ impl<R: Records> Replay<R> {
         ensures spent { IsSome (S.left source.old)
             → IfOk result (λ gave. OnFalse gave (R.leaves (S.left source.new))) }
         ensures at { StepsOn self.old.progress.at self.new.progress.at result }
-        ensures formed { IfOk result (λ gave. OnTrue gave (rec.new.walked ≤ 6)) }
+        ensures formed { IfOk result (λ gave. OnTrue gave (IsWellFormed rec.new)) }
+        ensures walked { IfOk result (λ gave. OnTrue gave (rec.new.walked ≤ 6)) }
         ensures split { self.new.machine.split ≡ self.old.machine.split }
         ensures saved { self.new.machine.saved ≡ self.old.machine.saved }
         ensures pages { (R.seen self.new.records).pages ≡ (R.seen self.old.records).pages }

@@ -1,5 +1,5 @@
 -- Groups and the end: their text reads back, what was read is their text, and the groups of a run can be spelled.
-use Rattle.std.proofs.Common.{◌≡◌, ℕ, zero, suc, ◌+◌, ◌-◌, ◌^◌, ◌<◌, ◌≤◌, ltb, eqb, cond, arith, refl, ap, sym, ◌∙◌, subst}
+use Rattle.std.proofs.Common.{◌≡◌, ℕ, zero, suc, ◌+◌, ◌-◌, ◌^◌, ◌<◌, ◌≤◌, ltb, eqb, arith, refl, ap, subst}
 use Rattle.std.proofs.Common.{List, [], ◌∷◌, ◌++◌, length, Bool, true, false, Ok, Option, None, Some, IfSome, ne_eqb}
 use Rattle.std.proofs.lemmas.Bool.{ltb-true}
 use Rattle.std.specs.List.{AllByRecursion}
@@ -10,10 +10,10 @@ use Rattle.cx_codec.specs.Checks.{checked, is_between}
 use Rattle.cx_codec.specs.Place.{Place, Reader, Takes, done, read_on}
 use Rattle.cx_codec.specs.Varint.{varint}
 use Rattle.cx_codec.proofs.Again.{reads_both, reads_byte, reads_checked, reads_then, reads_varint}
-use Rattle.cx_codec.proofs.Once.{Part, part, finish, once_byte, once_checked, once_varint}
+use Rattle.cx_codec.proofs.Once.{part, finish, once_byte, once_checked, once_varint}
 use Rattle.cx_codec.proofs.Texts.{takes_along, takes_both}
 use Rattle.cx_slices.specs.Groups.{AreGroups, Group}
-use Rattle.cx_slices.specs.Items.{Items, ItemsFit}
+use Rattle.cx_slices.specs.Items.{ItemsFit}
 use Rattle.cx_slices.specs.Stretches.{Stretch}
 use Rattle.cx_slices.proofs.Stretches.{few_stretches, short_stretches}
 use Rattle.cx_slicefmt.specs.Reading.{entry_at, entry_by, index_at, items_at}

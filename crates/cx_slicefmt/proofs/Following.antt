@@ -1,15 +1,15 @@
 -- What comes next in a slice: a group, or the end with nothing behind it.
-use Rattle.std.proofs.Common.{◌≡◌, ℕ, inl, inr, refl, sym, ap, ◌∙◌, IfOk, Result, Ok, Err, IsSome}
+use Rattle.std.proofs.Common.{◌≡◌, ℕ, inl, inr, refl, ◌∙◌, IfOk, Result, Ok, Err}
 use Rattle.cx_codec.specs.Checks.{close_at}
-use Rattle.cx_codec.specs.Place.{Place, Reader, done, end_of, read_on}
-use Rattle.cx_codec.specs.Reads.{Begins, EndsIn, Ends, GivesIn, MayBe, Reads, Standing, always, place_in}
+use Rattle.cx_codec.specs.Place.{Place, done, end_of, read_on}
+use Rattle.cx_codec.specs.Reads.{EndsIn, Ends, GivesIn, MayBe, Reads, Standing, always, place_in}
 use Rattle.cx_codec.proofs.Following.{begins_on, follows_on}
 use Rattle.cx_slicefmt.specs.declared.fault.SliceFault.{SliceFault}
 use Rattle.cx_slicefmt.specs.declared.fault.SliceFault.TheVariants.{Format, ReadFault}
 use Rattle.cx_slicefmt.specs.declared.items.Either.{Either}
 use Rattle.cx_slicefmt.specs.declared.items.Either.TheVariants.{Group, End}
 use Rattle.cx_slicefmt.specs.declared.items.GroupItems.{GroupItems}
-use Rattle.cx_slicefmt.specs.Engine.{IsEndRead, NextIn, Nexts, entry_in}
+use Rattle.cx_slicefmt.specs.Engine.{NextIn, Nexts, entry_in}
 use Rattle.cx_slicefmt.specs.Fault.{slice_met}
 use Rattle.cx_slicefmt.specs.Reading.{entry_at, next_at}
 use Rattle.cx_slicefmt.specs.Rules.{EndAt, process}

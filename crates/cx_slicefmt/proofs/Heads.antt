@@ -1,14 +1,14 @@
 -- The items of a group: their text reads back, and what was read is their text.
-use Rattle.std.proofs.Common.{◌≡◌, ℕ, zero, suc, ◌+◌, ◌-◌, ◌^◌, ◌<◌, ◌≤◌, ◌&&◌, cond, arith, refl, ap, sym, ◌∙◌, subst}
-use Rattle.std.proofs.Common.{List, [], ◌∷◌, ◌++◌, length, Bool, true, false, Ok, Option, None, Some, is_none}
+use Rattle.std.proofs.Common.{◌≡◌, ℕ, ◌^◌, ◌<◌, ◌≤◌, ◌&&◌, cond, arith, refl, ap, sym, subst}
+use Rattle.std.proofs.Common.{List, [], ◌∷◌, ◌++◌, length, Bool, true, false, Option, None, Some, is_none}
 use Rattle.std.specs.List.{list_all, AllByRecursion}
 use Rattle.cx_codec.specs.Again.{Once, ReadsAs}
 use Rattle.cx_codec.specs.Fields.{byte_at, varint_at}
 use Rattle.cx_codec.specs.Checks.{checked, is_between}
-use Rattle.cx_codec.specs.Place.{Place, Reader, Takes, done, read_on}
+use Rattle.cx_codec.specs.Place.{Reader, done, read_on}
 use Rattle.cx_codec.specs.Varint.{varint}
 use Rattle.cx_codec.proofs.Again.{reads_both, reads_byte, reads_checked, reads_then, reads_varint}
-use Rattle.cx_codec.proofs.Once.{Part, part, finish, once_byte, once_checked, once_varint}
+use Rattle.cx_codec.proofs.Once.{part, finish, once_byte, once_checked, once_varint}
 use Rattle.cx_codec.proofs.Texts.{takes_along, takes_both}
 use Rattle.cx_slices.specs.Items.{IsByteAt, IsWordOrNone, Items, are_none, is_nil}
 use Rattle.cx_slices.specs.Stretches.{Stretch, bytes_of_stretches, stretches_of}

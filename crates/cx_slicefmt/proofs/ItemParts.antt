@@ -1,5 +1,5 @@
 -- The items of a group along the fields that are read.
-use Rattle.std.proofs.Common.{◌≡◌, ℕ, suc, ◌<◌, ◌≢◌, arith, refl, ap, sym, ◌∙◌, ◌&&◌, Bool, false, cond, is_none}
+use Rattle.std.proofs.Common.{◌≡◌, ℕ, suc, arith, refl, ◌&&◌, false, is_none}
 use Rattle.std.proofs.Common.{List, [], ◌∷◌, length, eqb, ne_eqb, Option, Result, Ok, Err}
 use Rattle.std.specs.List.{list_all}
 use Rattle.cx_codec.specs.Fields.{varint_at}

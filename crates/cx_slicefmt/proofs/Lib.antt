@@ -10,3 +10,5 @@ pub mod WordLoop
 pub mod RunLoop
 pub mod ItemParts
 pub mod Following
+pub mod FirstRun
+pub mod Presents

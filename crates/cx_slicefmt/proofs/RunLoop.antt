@@ -1,10 +1,10 @@
 -- The runs of a group, read one after another.
-use Rattle.std.proofs.Common.{◌≡◌, ℕ, zero, suc, ◌+◌, ◌-◌, ◌<◌, ◌≤◌, List, [], ◌∷◌, ◌++◌, length, take, drop, get_or, subst}
-use Rattle.std.proofs.Common.{arith, refl, ap, sym, ◌∙◌, Result, Ok, Err, IsSome, append_assoc}
+use Rattle.std.proofs.Common.{◌≡◌, ℕ, suc, ◌+◌, ◌-◌, ◌<◌, ◌≤◌, List, [], ◌∷◌, ◌++◌, length, take, drop, get_or, subst}
+use Rattle.std.proofs.Common.{arith, refl, ap, sym, ◌∙◌, Ok, Err, IsSome, append_assoc}
 use Rattle.std.proofs.lemmas.List.{append-nil, length-take-le, take_at, take_more}
 use Rattle.arrayvec.specs.ArrayVec.{ArrayVec}
 use Rattle.cx_codec.specs.Place.{Place, Reader, done, read_on}
-use Rattle.cx_codec.specs.Reads.{Met, Standing, Reads}
+use Rattle.cx_codec.specs.Reads.{Standing, Reads}
 use Rattle.cx_codec.proofs.Composing.{fails, gives}
 use Rattle.cx_codec.proofs.Midway.{Midway, begin, step, end}
 use Rattle.cx_slices.specs.Bytes.{Byte}

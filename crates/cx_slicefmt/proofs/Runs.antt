@@ -1,6 +1,6 @@
 -- Runs of bytes: their text reads back, what was read is their text, and they are rising bytes.
-use Rattle.std.proofs.Common.{◌≡◌, ℕ, zero, suc, ◌+◌, ◌-◌, ◌^◌, ◌<◌, ◌≤◌, min, leb, ◌&&◌, arith, refl, ap, sym, ◌∙◌}
-use Rattle.std.proofs.Common.{List, [], ◌∷◌, ◌++◌, length, Bool, true, false, Ok, subst}
+use Rattle.std.proofs.Common.{◌≡◌, ℕ, zero, suc, ◌+◌, ◌-◌, ◌^◌, ◌<◌, ◌≤◌, min, leb, arith, refl, ap, sym}
+use Rattle.std.proofs.Common.{List, [], ◌∷◌, ◌++◌, length, true}
 use Rattle.std.proofs.lemmas.Bool.{leb-true, le-leb, and_from, and_parts}
 use Rattle.std.specs.List.{AllByRecursion}
 use Rattle.std.specs.Int.{w32, to_le_bytes}
@@ -8,12 +8,12 @@ use Rattle.cx_map.specs.Bytes.{AreBytes}
 use Rattle.cx_codec.specs.Again.{Once, ReadsAs}
 use Rattle.cx_codec.specs.Fields.{bytes_at, varint_at, word_at}
 use Rattle.cx_codec.specs.Checks.{checked, is_between}
-use Rattle.cx_codec.specs.Place.{Place, Reader, Takes, done, read_on}
+use Rattle.cx_codec.specs.Place.{Reader, done, read_on}
 use Rattle.cx_codec.specs.Varint.{varint}
 use Rattle.cx_codec.proofs.Again.{reads_both, reads_bytes, reads_checked, reads_nothing, reads_then, reads_varint, reads_word}
-use Rattle.cx_codec.proofs.Once.{Part, part, finish, once_bytes, once_checked, once_varint, once_word}
+use Rattle.cx_codec.proofs.Once.{part, finish, once_bytes, once_checked, once_varint, once_word}
 use Rattle.cx_codec.proofs.Texts.{takes_along, takes_both, takes_nothing}
-use Rattle.cx_slices.specs.Bytes.{Byte, BytesRise}
+use Rattle.cx_slices.specs.Bytes.{Byte}
 use Rattle.cx_slices.specs.Items.{IsByteAt}
 use Rattle.cx_slices.specs.Stretches.{AreStretches, Stretch, bytes_from, bytes_of_stretches}
 use Rattle.cx_slicefmt.specs.Reading.{run_at, runs_at}

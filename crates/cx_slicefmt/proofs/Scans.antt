@@ -1,21 +1,21 @@
 -- Scans: groups that can be spelled are scanned whole, what was scanned whole are such groups, no slice is a front of
 -- another, and a scan goes group by group.
 use Rattle.std.proofs.Common.{◌≡◌, ℕ, zero, suc, ◌+◌, ◌-◌, ◌^◌, ◌<◌, ◌≤◌, arith, refl, ap, sym, ◌∙◌, eqb, cond}
-use Rattle.std.proofs.Common.{List, [], ◌∷◌, ◌++◌, length, Bool, true, false, Result, Ok, Err, Option, None, Some, ⊎_elim}
-use Rattle.std.proofs.Common.{length-append, append_assoc, eqb-true}
+use Rattle.std.proofs.Common.{List, [], ◌∷◌, ◌++◌, length, Bool, true, false, Result, Ok, Err, None, Some, ⊎_elim}
+use Rattle.std.proofs.Common.{length-append, eqb-true}
 use Rattle.std.proofs.lemmas.Bool.{cases_lt}
 use Rattle.std.proofs.lemmas.List.{append-nil}
 use Rattle.cx_map.specs.Bytes.{AreBytes}
-use Rattle.cx_codec.specs.Again.{IsCut, Once, ReadsAs}
-use Rattle.cx_codec.specs.Checks.{close_at, fault_of}
+use Rattle.cx_codec.specs.Again.{IsCut}
+use Rattle.cx_codec.specs.Checks.{close_at}
 use Rattle.cx_codec.specs.Place.{Place, Takes, behind_text, end_of, done, read_on}
-use Rattle.cx_codec.proofs.Again.{CutBehind, first_cut, second_cut}
-use Rattle.cx_codec.proofs.Composing.{bound, done_same}
+use Rattle.cx_codec.proofs.Again.{first_cut, second_cut}
+use Rattle.cx_codec.proofs.Composing.{done_same}
 use Rattle.cx_codec.proofs.Texts.{bytes_behind, takes_both, takes_first, takes_second}
 use Rattle.cx_slices.specs.Groups.{Group, GroupsRise}
 use Rattle.cx_slices.specs.Settled.{SliceScan}
 use Rattle.cx_slicefmt.specs.Reading.{closed, entry_at, next_at}
-use Rattle.cx_slicefmt.specs.Rules.{AreSpelled, EndAt, EntryStands, Form, GroupOf, SliceEntry}
+use Rattle.cx_slicefmt.specs.Rules.{AreSpelled, EndAt, Form, GroupOf, SliceEntry}
 use Rattle.cx_slicefmt.specs.Scan.{
   IsWholeScan,
   by_end,

@@ -1,34 +1,16 @@
 -- The text of groups: how it grows, and how long it is at most. The text of one slice as an example.
-use Rattle.std.proofs.Common.{◌≡◌, ℕ, zero, suc, ◌+◌, ◌-◌, ◌*◌, ◌^◌, ◌≤◌, ◌<◌, arith, refl, ap, sym, ◌∙◌, replicate}
+use Rattle.std.proofs.Common.{◌≡◌, ℕ, suc, ◌+◌, ◌-◌, ◌*◌, ◌^◌, ◌≤◌, arith, refl, ap, sym, ◌∙◌, replicate}
 use Rattle.std.proofs.Common.{List, [], ◌∷◌, ◌++◌, length, Option, None, Some, append_assoc, length-append}
 use Rattle.std.proofs.lemmas.List.{append-nil}
 use Rattle.std.specs.Int.{w32, to_le_bytes}
-use Rattle.cx_codec.specs.Varint.{varint, varint_within}
+use Rattle.cx_codec.specs.Varint.{varint}
 use Rattle.cx_codec.proofs.Sizes.{varint_few}
 use Rattle.cx_slices.specs.Groups.{Group}
 use Rattle.cx_slices.specs.Items.{Items}
 use Rattle.cx_slices.specs.Stretches.{Stretch, stretches_of}
-use Rattle.cx_slices.proofs.Stretches.{AreStretches-stretches_of}
 use Rattle.cx_slicefmt.specs.Rules.{AreSpelled, IsGroup, IsHead, head_in, process}
 use Rattle.std.specs.List.{AllByRecursion}
-use Rattle.cx_slicefmt.specs.Text.{
-  bit,
-  ended_text,
-  given_text,
-  group_text,
-  groups_text,
-  head_text,
-  items_text,
-  least_behind,
-  present_text,
-  run_text,
-  runs_text,
-  slice_body,
-  slice_end_text,
-  slice_magic,
-  slice_text,
-  word_text,
-}
+use Rattle.cx_slicefmt.specs.Text.{ended_text, given_text, group_text, groups_text, head_text, items_text, least_behind, present_text, run_text, runs_text, slice_body, slice_end_text, slice_magic, slice_text, word_text}
 
 -- ---- one group more
 

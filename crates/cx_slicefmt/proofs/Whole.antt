@@ -1,16 +1,15 @@
 -- Process slices as whole inputs.
-use Rattle.std.proofs.Common.{◌≡◌, ℕ, suc, ◌+◌, ◌-◌, ◌^◌, ◌≤◌, ◌<◌, arith, refl, ap, sym, ◌∙◌, List, [], ◌++◌, length, drop}
-use Rattle.std.proofs.Common.{Option, None, Some, Ok, length-append, append_assoc}
+use Rattle.std.proofs.Common.{◌≡◌, ℕ, suc, ◌+◌, ◌^◌, ◌≤◌, arith, refl, ap, sym, ◌∙◌, List, [], ◌++◌, length, drop}
+use Rattle.std.proofs.Common.{None, Some}
 use Rattle.std.proofs.lemmas.List.{append-nil}
 use Rattle.cx_map.specs.Bytes.{AreBytes}
-use Rattle.cx_codec.specs.Again.{IsCut}
 use Rattle.cx_codec.specs.Place.{Place, Takes}
 use Rattle.cx_slices.specs.Groups.{Group}
 use Rattle.cx_slices.specs.Settled.{SliceScan}
 use Rattle.cx_slicefmt.specs.Rules.{AreSpelled, process}
-use Rattle.cx_slicefmt.specs.Scan.{IsWholeScan, behind_slice_magic, scan_groups, slice_scan}
+use Rattle.cx_slicefmt.specs.Scan.{behind_slice_magic, scan_groups, slice_scan}
 use Rattle.cx_slicefmt.specs.Text.{ended_text, slice_magic, slice_text}
-use Rattle.cx_slicefmt.proofs.Scans.{no_front, scan_again, scan_cut, scan_once, scan_well}
+use Rattle.cx_slicefmt.proofs.Scans.{scan_again, scan_cut, scan_once, scan_well}
 use Rattle.cx_slicefmt.proofs.Texts.{slice_few}
 
 text_behind : (bytes text : List ℕ) → slice_magic ++ bytes ≡ slice_magic ++ text → bytes ≡ text

@@ -1,12 +1,12 @@
 -- The words of a group, read one after another.
-use Rattle.std.proofs.Common.{◌≡◌, ℕ, zero, suc, ◌+◌, ◌-◌, ◌/◌, ◌%◌, ◌<◌, ◌≤◌, ◌≢◌, List, [], ◌∷◌, ◌++◌, length, take, set}
-use Rattle.std.proofs.Common.{arith, refl, ap, sym, ◌∙◌, Result, Ok, Err, IsSome, Option, None, Some, append_assoc}
+use Rattle.std.proofs.Common.{◌≡◌, ℕ, zero, suc, ◌+◌, ◌-◌, ◌/◌, ◌%◌, ◌<◌, ◌≢◌, List, [], ◌∷◌, ◌++◌, length, take, set}
+use Rattle.std.proofs.Common.{arith, refl, ap, sym, ◌∙◌, Result, Ok, Err, IsSome, Option, Some, append_assoc}
 use Rattle.std.proofs.lemmas.List.{take_more_set, take_all, append-nil}
 use Rattle.cx_codec.specs.declared.fault.BytesFault.{BytesFault}
 use Rattle.cx_codec.specs.Fault.{bytes_met}
 use Rattle.cx_codec.specs.Fields.{word_at}
 use Rattle.cx_codec.specs.Place.{Place, Reader, done, read_on}
-use Rattle.cx_codec.specs.Reads.{Met, Standing, Reads}
+use Rattle.cx_codec.specs.Reads.{Standing, Reads}
 use Rattle.cx_codec.proofs.Composing.{fails, goes, gives}
 use Rattle.cx_codec.proofs.Midway.{Midway, begin, step, end}
 use Rattle.cx_slicefmt.specs.declared.fault.SliceFault.{SliceFault}

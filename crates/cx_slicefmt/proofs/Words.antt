@@ -1,16 +1,14 @@
 -- Words by a mask, or by a flag: their text reads back, and what was read is their text.
-use Rattle.std.proofs.Common.{◌≡◌, ℕ, zero, suc, ◌+◌, ◌*◌, ◌/◌, ◌%◌, ◌^◌, ◌<◌, ◌≤◌, arith, refl, ap, sym, ◌∙◌}
-use Rattle.std.proofs.Common.{List, [], ◌∷◌, ◌++◌, length, Option, None, Some, Ok, subst}
-use Rattle.std.proofs.lemmas.List.{append-nil}
+use Rattle.std.proofs.Common.{◌≡◌, ℕ, zero, suc, ◌+◌, ◌*◌, ◌/◌, ◌%◌, ◌^◌, ◌<◌, arith, refl, ap, sym}
+use Rattle.std.proofs.Common.{List, [], ◌∷◌, ◌++◌, length, Option, None, Some, subst}
 use Rattle.std.proofs.Math.Nat.{pow-suc}
 use Rattle.std.specs.List.{AllByRecursion}
 use Rattle.std.specs.Int.{w32, to_le_bytes}
-use Rattle.cx_map.specs.Bytes.{AreBytes}
 use Rattle.cx_codec.specs.Again.{Once, ReadsAs}
 use Rattle.cx_codec.specs.Fields.{word_at}
-use Rattle.cx_codec.specs.Place.{Place, Reader, Takes, done, read_on}
+use Rattle.cx_codec.specs.Place.{Reader, done, read_on}
 use Rattle.cx_codec.proofs.Again.{reads_both, reads_nothing, reads_then, reads_word}
-use Rattle.cx_codec.proofs.Once.{Part, part, finish, once_word}
+use Rattle.cx_codec.proofs.Once.{part, finish, once_word}
 use Rattle.cx_codec.proofs.Texts.{takes_along, takes_both, takes_nothing}
 use Rattle.cx_slices.specs.Items.{IsWordOrNone}
 use Rattle.cx_slicefmt.specs.Reading.{masked_at, present_at, word_by}

@@ -4,3 +4,4 @@ pub mod Reading
 pub mod Scan
 pub mod Fault
 pub mod Engine
+pub mod Writing

@@ -1,13 +1,11 @@
 -- How groups are read, field by field: each reader answers its value and the place behind it, or the offset of the
 -- first bad field.
-use Rattle.std.specs.Prelude.{ℕ, zero, suc, ◌+◌, ◌-◌, ◌/◌, ◌%◌, ◌^◌, ◌==◌, nat_le, nat_lt, min, ◌&&◌, Bool, true, false}
-use Rattle.std.specs.Prelude.{List, [], ◌∷◌, ◌++◌, length, Option, None, Some, is_none, if◌then◌else◌}
+use Rattle.std.specs.Prelude.{ℕ, zero, suc, ◌+◌, ◌-◌, ◌/◌, ◌%◌, ◌^◌, ◌==◌, nat_le, min, ◌&&◌, Bool, false}
+use Rattle.std.specs.Prelude.{List, [], ◌∷◌, length, Option, None, Some, is_none, if◌then◌else◌}
 use Rattle.std.specs.List.{list_all}
 use Rattle.cx_codec.specs.Place.{Reader, ◌>>=◌, done}
 use Rattle.cx_codec.specs.Fields.{bytes_at, byte_at, word_at, varint_at}
 use Rattle.cx_codec.specs.Checks.{checked, close_at, is_between}
-use Rattle.cx_slices.specs.Bytes.{Byte}
-use Rattle.cx_slices.specs.Groups.{Group}
 use Rattle.cx_slices.specs.Items.{Items}
 use Rattle.cx_slices.specs.Stretches.{Stretch, bytes_of_stretches}
 use Rattle.cx_slicefmt.specs.Rules.{Form, Head, SliceEntry, GroupOf, EndAt, is_empty}

@@ -1,5 +1,5 @@
 -- What can be spelled as a slice.
-use Rattle.std.specs.Prelude.{◌≡◌, ℕ, zero, suc, ◌+◌, ◌<◌, ◌≤◌, ◌^◌, ◌&&◌, Bool, false, List, [], ◌∷◌, length}
+use Rattle.std.specs.Prelude.{◌≡◌, ℕ, suc, ◌+◌, ◌<◌, ◌≤◌, ◌^◌, ◌&&◌, Bool, false, List, [], ◌∷◌, length}
 use Rattle.std.specs.Prelude.{Option, IfSome, is_none}
 use Rattle.std.specs.List.{list_all, AllByRecursion}
 use Rattle.cx_map.specs.Bytes.{AreBytes}

@@ -1,5 +1,5 @@
 -- The groups of an input, up to its end or to the first bad field.
-use Rattle.std.specs.Prelude.{◌≡◌, ℕ, zero, suc, ◌-◌, ◌^◌, List, [], ◌∷◌, length, Option, None, Some, Result, Ok, Err}
+use Rattle.std.specs.Prelude.{◌≡◌, ℕ, zero, suc, ◌-◌, ◌^◌, List, [], ◌∷◌, length, None, Some, Result, Ok, Err}
 use Rattle.cx_codec.specs.Checks.{close_at}
 use Rattle.cx_codec.specs.Place.{Place, Takes}
 use Rattle.cx_slices.specs.Groups.{Group}

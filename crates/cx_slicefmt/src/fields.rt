@@ -92,8 +92,8 @@ pub(crate) fn address<S: Source>(
     Ok(word)
 }
 
-// The last index before a least one; 0 where there is none.
-fn last_before(least: u64) -> u64
+/// The last index before a least one; 0 where there is none.
+pub(crate) fn last_before(least: u64) -> u64
     ensures { result ≡ least - 1 }
 {
     least.saturating_sub(1)

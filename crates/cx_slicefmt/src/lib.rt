@@ -1,4 +1,4 @@
-//! Process slices as bytes: what can be spelled, its text, and how it is read.
+//! Process slices as bytes: what can be spelled, its text, and how it is read and written.
 #![tactic(auto)]
 
 mod fault;
@@ -9,6 +9,9 @@ mod masks;
 mod pieces;
 mod reader;
 mod reading;
+mod stretches;
+mod text;
+mod writer;
 
 pub use fault::SliceFault;
 pub use items::{Either, GroupItems, MOST_BYTES};
@@ -18,3 +21,4 @@ pub use laws::{
     texts_grow_by_one_group,
 };
 pub use reader::GroupReader;
+pub use writer::GroupWriter;

@@ -62,7 +62,7 @@ refused_window full a b bytes may cut e meets =
     meets).0
 
 -- nothing is settled of it before all was judged
-nothing_settled : (bytes : List ℕ) → text_of no_text bytes ≡ []
+pub nothing_settled : (bytes : List ℕ) → text_of no_text bytes ≡ []
 unfolding text_of
 nothing_settled bytes = by_opening (opened_at (start_of bytes))
   where

@@ -81,8 +81,8 @@ kinds_apart p = after (bytes_at 4 p)
   where
     by_tests : (q : Place) (recording process calls : Bool)
         → read_on ((if recording then done {Y = Unit {0}} tt else bad p.at) q) (λ begun. behind_magic_at)
-        ≡ read_on ((if recording then done kind.Recording else if process then done kind.Slice else if calls then
-        done kind.Slice else bad p.at) q) (behind_kind p.at)
+        ≡ read_on ((if recording then done kind.Recording else if process then done kind.Process else if calls then
+        done kind.Calls else bad p.at) q) (behind_kind p.at)
     by_tests q true process calls = refl
     by_tests q false true calls = refl
     by_tests q false false true = refl

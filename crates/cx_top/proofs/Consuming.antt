@@ -1,5 +1,5 @@
 -- What reading does to its source.
-use Rattle.std.proofs.Common.{◌≡◌, ℕ, false, List, [], Option, IsSome, unwrap_or}
+use Rattle.std.proofs.Common.{◌≡◌, ℕ, true, false, List, [], Option, IsSome, unwrap_or}
 use Rattle.cx_codec.specs.Reads.{Follows, Standing}
 use Rattle.cx_log.specs.declared.fault.LogFault.{LogFault}
 use Rattle.cx_log.specs.declared.fault.LogFault.TheVariants.{Format as bad_field, ReadFault as read_fault}
@@ -38,6 +38,11 @@ pub log_fault_is_early : (e : LogFault) → Judges false (status_of_log e) → �
 log_fault_is_early (bad_field o) j = j
 log_fault_is_early read_fault j = j
 log_fault_is_early no_memory j = j
+
+pub log_is_early : (e : LogFault) → Judges true (status_of_log e) → ⊥
+log_is_early (bad_field o) j = j
+log_is_early read_fault j = j
+log_is_early no_memory j = j
 
 pub replay_fault_is_early : (e : ReplayFault) → Judges false (status_of_replay e) → ⊥
 replay_fault_is_early (replay.Format o) j = j

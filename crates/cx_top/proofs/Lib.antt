@@ -7,11 +7,14 @@ pub mod Ordered
 pub mod Streams
 pub mod Streamed
 pub mod LineTold
+pub mod ShownTold
+pub mod SlicePut
 pub mod LinesAgain
 pub mod Replayed
 pub mod Fronts
 pub mod Upgrading
 pub mod Answering
+pub mod RootsTold
 pub mod LinesParts
 pub mod Upgraded
 pub mod Completeness
@@ -20,3 +23,9 @@ pub mod Carrying
 pub mod Seeding
 pub mod Recordings
 pub mod StepCounts
+pub mod Sliceable
+pub mod SliceReplays
+pub mod Isolated
+pub mod WindowsShow
+pub mod FedTold
+pub mod CutSlices

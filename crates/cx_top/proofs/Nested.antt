@@ -21,6 +21,7 @@ use Rattle.cx_top.specs.Opening.{scan_from}
 use Rattle.cx_top.specs.Window.{DoneAs, IsTextOf, WritesAlike, windowed}
 use Rattle.cx_top.specs.declared.status.Status.{Status}
 use Rattle.cx_top.specs.declared.status.Status.TheVariants as status
+use Rattle.cx_top.proofs.Completeness.{lasting_so}
 use Rattle.cx_top.proofs.Answering.{good_is_written}
 use Rattle.cx_top.proofs.Doings.{refusal_behind}
 use Rattle.cx_top.proofs.Judging.{bad_of_begun, good_is_begun, text_of_begun}
@@ -110,7 +111,7 @@ done_as d one other whole cut held now status.NotThere alike h answers leaves =
 done_as d one other whole cut held now (status.Format o) alike h answers leaves =
     let never = sym alike.good ∙ answers h in cc
 done_as d one other whole cut held now (status.Broken n) alike h answers leaves =
-    let never = sym alike.good ∙ answers in cc
+    let never = sym alike.good ∙ lasting_so (d.lasts one) whole _ h answers in cc
 done_as d one other whole cut held now (status.NotBuilt n) alike h answers leaves =
     let never = sym alike.good ∙ answers in cc
 done_as d one other whole cut held now status.Usage alike h answers leaves = let never = sym alike.good ∙ answers in cc

@@ -1,19 +1,23 @@
 -- What each command does, and what a call does for it.
-use Rattle.std.specs.Prelude.{◌≡◌, ℕ, Bool, false, List, [], ◌++◌, drop, length, Option, None, Some}
+use Rattle.std.specs.Prelude.{◌≡◌, ℕ, Bool, true, false, List, [], ◌++◌, drop, length, Option, None, Some}
 use Rattle.cx_io.specs.declared.outside.Outside.{Outside}
 use Rattle.cx_record.specs.Promise.{AddsAnswers}
 use Rattle.cx_top.specs.Doing.{Answers, Doing, IsUntouched, Leaves}
 use Rattle.cx_top.specs.Record.{AsksSeed, AsksSteps, IsRecordStatus, IsSeededStatus, recording, seeded}
+use Rattle.cx_top.specs.Process.{slicing}
+use Rattle.cx_top.specs.Replay.{IsReplayStatus, replaying}
+use Rattle.cx_top.specs.Roots.{listing_roots}
 use Rattle.cx_top.specs.Streaming.{IsStreamStatus}
-use Rattle.cx_top.specs.Trace.{IsReplayStatus, replaying, tracing}
+use Rattle.cx_top.specs.Trace.{tracing}
+use Rattle.cx_top.specs.TraceRoot.{tracing_root}
 use Rattle.cx_top.specs.TraceWindow.{tracing_window}
 use Rattle.cx_top.specs.Upgrade.{upgrading}
 use Rattle.cx_top.specs.Window.{IsWindowStatus, windowed}
 use Rattle.cx_top.specs.declared.status.Status.{Status}
 use Rattle.cx_top.specs.declared.status.Status.TheVariants as status
 use Rattle.cx_words.specs.declared.command.Command.{Command}
-use Rattle.cx_words.specs.declared.command.Command.TheVariants.{Record, RecordSeed, Replay, TraceAll, TraceWindow}
-use Rattle.cx_words.specs.declared.command.Command.TheVariants.{Upgrade, Window}
+use Rattle.cx_words.specs.declared.command.Command.TheVariants.{Process, Record, RecordSeed, Replay, TraceAll, TraceWindow}
+use Rattle.cx_words.specs.declared.command.Command.TheVariants.{Roots, TraceRoot, Upgrade, Window}
 
 -- The input of a call from the start of it, where the source gave these bytes before the call.
 abbrev pub input_behind : List ℕ → List ℕ → List ℕ
@@ -28,6 +32,9 @@ answering answer = record {
   full = λ bytes. [];
   settled = λ bytes. [];
   cut_off = λ bytes. [];
+  refusal_so_far = λ bytes. Some answer;
+  settled_so_far = λ bytes. [];
+  lasts = λ bytes. true;
 }
 
 -- what a command does where the world gives these answers
@@ -35,7 +42,10 @@ abbrev pub doing_of : Option Command → List Outside → Doing
 doing_of None answers = answering status.Usage
 doing_of (Some (Window a b)) answers = windowed a b
 doing_of (Some (TraceWindow a b)) answers = tracing_window a b
+doing_of (Some (Process root)) answers = slicing root
 doing_of (Some TraceAll) answers = tracing
+doing_of (Some (TraceRoot root)) answers = tracing_root root
+doing_of (Some Roots) answers = listing_roots
 doing_of (Some Replay) answers = replaying
 doing_of (Some Upgrade) answers = upgrading
 doing_of (Some (Record steps)) answers = recording answers
@@ -47,9 +57,12 @@ abbrev pub MayAnswer : Option Command → Status → Type 0
 MayAnswer None answer = answer ≡ status.Usage
 MayAnswer (Some (Window a b)) answer = IsWindowStatus answer
 MayAnswer (Some (TraceWindow a b)) answer = IsWindowStatus answer
-MayAnswer (Some TraceAll) answer = IsStreamStatus answer
+MayAnswer (Some (Process root)) answer = IsStreamStatus true answer
+MayAnswer (Some TraceAll) answer = IsStreamStatus false answer
+MayAnswer (Some (TraceRoot root)) answer = IsStreamStatus true answer
+MayAnswer (Some Roots) answer = IsStreamStatus false answer
 MayAnswer (Some Replay) answer = IsReplayStatus answer
-MayAnswer (Some Upgrade) answer = IsStreamStatus answer
+MayAnswer (Some Upgrade) answer = IsStreamStatus false answer
 MayAnswer (Some (Record steps)) answer = IsRecordStatus answer
 MayAnswer (Some (RecordSeed steps seed)) answer = IsSeededStatus answer
 MayAnswer (Some _) answer = answer ≡ status.NotBuilt 0

@@ -16,7 +16,9 @@ use Rattle.cx_top.specs.declared.status.Status.TheVariants as status
 -- Whether it reads its source, and whether it writes before all of the input is judged. Of an input: the answer if it
 -- is refused, and none if it isn't; what is written of it where all is done; of an input that is refused, the text of
 -- what is settled in it; and of one that isn't, the text of what the world's answers have settled where the world
--- fails.
+-- fails. And of what a source gave before it failed: the answer if that is refused, whatever follows, and the text of
+-- what is settled in it. Last, whether what an input settles stays settled, whatever may still follow: it does, but that
+-- the end of a slice settles steps only where nothing follows it.
 pub record Doing : Type 0 where
   pub reads : Bool
   pub streams : Bool
@@ -24,6 +26,9 @@ pub record Doing : Type 0 where
   pub full : List ℕ → List ℕ
   pub settled : List ℕ → List ℕ
   pub cut_off : List ℕ → List ℕ
+  pub refusal_so_far : List ℕ → Option Status
+  pub settled_so_far : List ℕ → List ℕ
+  pub lasts : List ℕ → Bool
 
 -- ---- answers
 
@@ -34,16 +39,22 @@ IsGoodSoFar n (Some status.NotThere) = Unit {0}
 IsGoodSoFar n (Some (status.Format o)) = o ≡ n
 IsGoodSoFar n (Some _) = ⊥
 
+-- what is so of every input where what is settled lasts, and else of those that may be the whole one
+abbrev pub Lasting : Bool → (whole claim : Type 0) → Type 0
+Lasting true whole claim = claim
+Lasting false whole claim = whole → claim
+
 -- What an answer says of an input that begins with what the source gave: whole says that the input may be so, as far as
 -- the source told its end, and cut that it is what was given and no more.
 abbrev pub Answers : Doing → List ℕ → (whole cut : Type 0) → Status → Type 0
 Answers d bytes whole cut status.Done = whole → d.refusal bytes ≡ None
 Answers d bytes whole cut status.NotThere = whole → d.refusal bytes ≡ Some status.NotThere
 Answers d bytes whole cut (status.Format o) = whole → d.refusal bytes ≡ Some (status.Format o)
-Answers d bytes whole cut (status.Broken n) = d.refusal bytes ≡ Some (status.Broken n)
+Answers d bytes whole cut (status.Broken n) =
+    Lasting (d.lasts bytes) whole (d.refusal bytes ≡ Some (status.Broken n))
 Answers d bytes whole cut (status.NotBuilt n) = d.refusal bytes ≡ Some (status.NotBuilt n)
 Answers d bytes whole cut status.Usage = d.refusal bytes ≡ Some status.Usage
-Answers d bytes whole cut status.ReadFault = cut → IsGoodSoFar (length bytes) (d.refusal bytes)
+Answers d bytes whole cut status.ReadFault = cut → IsGoodSoFar (length bytes) (d.refusal_so_far bytes)
 Answers d bytes whole cut status.WriteFault = d.streams ≡ false → whole → d.refusal bytes ≡ None
 Answers d bytes whole cut status.NoMemory = Unit {0}
 Answers d bytes whole cut status.WorldFault = whole → d.refusal bytes ≡ None
@@ -55,17 +66,26 @@ abbrev pub LeavesFront : Doing → List ℕ → (whole : Type 0) → Option (Lis
 LeavesFront d bytes whole held now =
     HasFront held (d.settled bytes) now ⊎ (whole → (d.refusal bytes ≡ None) × HasFront held (d.full bytes) now)
 
+-- Nothing was appended. Where nothing is written before the input is judged, that is said of every sink.
+abbrev pub LeavesNothing : (streams : Bool) → Option (List ℕ) → Option (List ℕ) → Type 0
+LeavesNothing false held now = now ≡ held
+LeavesNothing true held now = Appends held now []
+
 -- What a sink holds that held the first of the two lists: all on Done; the whole blocks of what is settled where the
 -- input is bad or couldn't be read on, or where the world failed; a front where the sink or memory gave out; else what
 -- it held.
 abbrev pub Leaves : Doing → List ℕ → (whole cut : Type 0) → Status → Option (List ℕ) → Option (List ℕ) → Type 0
 Leaves d bytes whole cut status.Done held now = whole → Appends held now (d.full bytes)
 Leaves d bytes whole cut (status.Format o) held now = whole → Appends held now (whole_blocks (d.settled bytes))
-Leaves d bytes whole cut (status.Broken n) held now = Appends held now (whole_blocks (d.settled bytes))
-Leaves d bytes whole cut status.ReadFault held now = cut → Appends held now (whole_blocks (d.settled bytes))
+Leaves d bytes whole cut (status.Broken n) held now =
+    Lasting (d.lasts bytes) whole (Appends held now (whole_blocks (d.settled bytes)))
+Leaves d bytes whole cut status.ReadFault held now = cut → Appends held now (whole_blocks (d.settled_so_far bytes))
 Leaves d bytes whole cut status.WorldFault held now = whole → Appends held now (whole_blocks (d.cut_off bytes))
-Leaves d bytes whole cut status.WriteFault held now = LeavesFront d bytes whole held now
-Leaves d bytes whole cut status.NoMemory held now = LeavesFront d bytes whole held now
+Leaves d bytes whole cut status.WriteFault held now =
+    Lasting (d.lasts bytes) whole (LeavesFront d bytes whole held now)
+Leaves d bytes whole cut status.NoMemory held now =
+    Lasting (d.lasts bytes) whole (LeavesFront d bytes whole held now)
+Leaves d bytes whole cut status.NotThere held now = LeavesNothing d.streams held now
 Leaves d bytes whole cut _ held now = now ≡ held
 
 -- the answers that come before anything is written, or for which nothing is
@@ -77,6 +97,7 @@ IsUntouched streams status.NoMemory = ⊥
 IsUntouched streams (status.Format o) = streams ≡ false
 IsUntouched streams (status.Broken n) = streams ≡ false
 IsUntouched streams status.ReadFault = streams ≡ false
+IsUntouched streams status.NotThere = streams ≡ false
 IsUntouched streams _ = Unit {0}
 
 -- the answer of a call, once it was refused or not
@@ -153,4 +174,7 @@ of_recording streams there full settled = record {
   full = text_of full;
   settled = text_of settled;
   cut_off = λ bytes. [];
+  refusal_so_far = λ bytes. judged (first_bad hart_step bytes) (there_of there bytes);
+  settled_so_far = text_of settled;
+  lasts = λ bytes. true;
 }

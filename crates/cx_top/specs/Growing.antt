@@ -1,7 +1,9 @@
 -- The text of more steps begins with that of the first.
-use Rattle.std.specs.Prelude.{◌≡◌, ℕ, zero, suc, ◌+◌, ◌≤◌, ◌==◌, ◌&&◌, not, List, [], ◌∷◌, ◌++◌, length}
-use Rattle.std.proofs.Common.{append_assoc, arith, ap, length-append, sym, ◌∙◌, refl}
+use Rattle.std.specs.Prelude.{◌≡◌, true, false, ℕ, zero, suc, ◌+◌, ◌≤◌, ◌==◌, ◌&&◌, not, List, [], ◌∷◌, ◌++◌, length}
+use Rattle.std.proofs.Common.{append_assoc, arith, ap, length-append, sym, subst, ◌∙◌, refl}
 use Rattle.std.proofs.lemmas.List.{append-nil}
+use Rattle.std.proofs.lemmas.List.Elements.{filter_map-append}
+use Rattle.cx_codec.specs.Blocks.{whole}
 use Rattle.cx_codec.specs.Reads.{Begins}
 use Rattle.cx_hart.specs.declared.record.StepRec.{StepRec}
 use Rattle.cx_log.specs.Order.{InOrder}
@@ -9,13 +11,20 @@ use Rattle.cx_log.specs.declared.order.Behind.{Behind}
 use Rattle.cx_log.specs.Recording.{Recorded}
 use Rattle.cx_log.specs.Reading.{Opened}
 use Rattle.cx_log.specs.Scan.{Scan}
+use Rattle.cx_observe.specs.Observation.{observation_of}
+use Rattle.cx_observe.specs.declared.obs.Obs.{Obs}
 use Rattle.cx_print.specs.Lines.{step_line}
+use Rattle.cx_process.specs.Slicing.{added_text}
+use Rattle.cx_process.proofs.Standing.{body_grows}
+use Rattle.cx_slicefmt.specs.Text.{slice_body}
 use Rattle.cx_run.specs.Due.{due_at}
 use Rattle.cx_run.specs.StepEvents.{has_mark, step_events}
 use Rattle.cx_run.specs.Window.{events_between}
 use Rattle.cx_run.proofs.StepEvents.{step_more}
 use Rattle.cx_run.specs.SoFar.{behind_all, events_text}
 use Rattle.cx_run.proofs.TextSoFar.{text_on}
+use Rattle.cx_top.specs.Observed.{has_observation, observations_in, occurs_in}
+use Rattle.cx_top.specs.Process.{process_text, slice_begun}
 use Rattle.cx_top.specs.Streaming.{IsOrdered}
 use Rattle.cx_top.specs.Upgrade.{first_events, front_text, start_of_records, upgrade_text}
 use Rattle.cx_top.specs.Trace.{line_text, lines_from}
@@ -41,6 +50,46 @@ lines_grow o s xs ys ordered = record {
   rest = lines_from (o.header.base + length xs) ys;
   parts = lines_on o.header.base xs ys;
 }
+
+-- ---- what is sought
+
+-- what is always there is never missing
+pub never_missing : {X : Type 0} → true ≡ false → X
+never_missing never = absurd (true_is_not_false never)
+  where
+    true_is_not_false : true ≡ false → ⊥
+    true_is_not_false same = cc
+
+-- ---- slices
+
+slice_grows : (os more : List Obs) → Begins (slice_begun os) (slice_begun (os ++ more))
+slice_grows os [] = record { rest = []; parts = ap slice_begun (append-nil os) ∙ sym (append-nil (slice_begun os)) }
+slice_grows os (o ∷ more) =
+    let first : slice_begun (os ++ o ∷ []) ≡ slice_begun os ++ added_text os o = body_grows os o in
+    let rest = slice_grows (os ++ o ∷ []) more in
+    record {
+      rest = added_text os o ++ rest.rest;
+      parts = ap slice_begun (sym (append_assoc os (o ∷ []) more))
+          ∙ rest.parts ∙ ap (λ (t : List ℕ). t ++ rest.rest) first
+          ∙ append_assoc (slice_begun os) (added_text os o) rest.rest;
+    }
+
+pub process_grows : (root : ℕ) (o : Opened) (s : Scan) (xs ys : List StepRec) → IsOrdered o s
+    → Begins (process_text root o s xs) (process_text root o s (xs ++ ys))
+process_grows root o s xs ys ordered =
+    subst (λ (os : List Obs). Begins (slice_begun (observations_in root xs)) (slice_begun os))
+    (sym (filter_map-append (λ rec. observation_of rec root) xs ys))
+    (slice_grows (observations_in root xs) (observations_in root ys))
+
+-- nothing but the magic stands before the first observation, and that fills no block
+pub process_unwritten : (root : ℕ) (o : Opened) (s : Scan) (given : List StepRec) → occurs_in root given ≡ false
+    → whole (process_text root o s given) ≡ []
+unfolding whole slice_body
+process_unwritten root o s given none = by_observations (observations_in root given) none
+  where
+    by_observations : (os : List Obs) → has_observation os ≡ false → whole (slice_begun os) ≡ []
+    by_observations [] none = refl
+    by_observations (o ∷ os) none = cc
 
 -- ---- records
 

@@ -34,8 +34,8 @@ scan_from o p = scan o.header.pages (at_start o.header.base o.header.start) p
 abbrev pub magic_by : ℕ → List ℕ → Reader Magic
 magic_by start bytes =
     if bytes_eq bytes (codes "CXR1") then done kind.Recording else
-    if bytes_eq bytes (codes "CXP1") then done kind.Slice else
-    if bytes_eq bytes (codes "CXC1") then done kind.Slice else bad start
+    if bytes_eq bytes (codes "CXP1") then done kind.Process else
+    if bytes_eq bytes (codes "CXC1") then done kind.Calls else bad start
 
 unfoldable pub kind_at : Reader Magic
 kind_at = do
@@ -67,4 +67,5 @@ behind_magic_at p = read_on (opened_header_at p) filled_at
 -- what an input is that begins with this, if it should be a recording
 abbrev pub behind_kind : ℕ → Magic → Reader Opened
 behind_kind start kind.Recording = behind_magic_at
-behind_kind start kind.Slice = bad start
+behind_kind start kind.Process = bad start
+behind_kind start kind.Calls = bad start

@@ -36,6 +36,9 @@ recording answers = record {
   full = λ bytes. text_over whole_text answers (image_of bytes);
   settled = λ bytes. [];
   cut_off = λ bytes. text_over cut_text answers (image_of bytes);
+  refusal_so_far = λ bytes. refusal_of_image (image_of bytes);
+  settled_so_far = λ bytes. [];
+  lasts = λ bytes. true;
 }
 
 -- With a seed the answers are the seed's. More of them than the run takes change nothing.

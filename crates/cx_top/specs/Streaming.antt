@@ -33,22 +33,26 @@ settled_steps o s =
 abbrev pub settled_by : (Opened → Scan → List StepRec → List ℕ) → Opened → Scan → List ℕ
 settled_by text o s = text o s (settled_steps o s)
 
--- the answers of such a command
-abbrev pub IsStreamStatus : Status → Type 0
-IsStreamStatus status.Usage = ⊥
-IsStreamStatus status.NotThere = ⊥
-IsStreamStatus status.WorldFault = ⊥
-IsStreamStatus (status.NotBuilt n) = ⊥
-IsStreamStatus _ = Unit {0}
+-- The answers of such a command; that what it seeks isn't there is one only where it seeks something.
+abbrev pub IsStreamStatus : (seeks : Bool) → Status → Type 0
+IsStreamStatus seeks status.Usage = ⊥
+IsStreamStatus seeks status.NotThere = seeks ≡ true
+IsStreamStatus seeks status.WorldFault = ⊥
+IsStreamStatus seeks (status.NotBuilt n) = ⊥
+IsStreamStatus seeks _ = Unit {0}
 
 -- those that it is refused with
-abbrev pub IsStreamRefusal : Status → Type 0
-IsStreamRefusal status.Done = ⊥
-IsStreamRefusal answer = IsStreamStatus answer
+abbrev pub IsStreamRefusal : (seeks : Bool) → Status → Type 0
+IsStreamRefusal seeks status.Done = ⊥
+IsStreamRefusal seeks answer = IsStreamStatus seeks answer
 
--- what it does, by the text of the first steps and the full one
+-- What it does, by whether what it seeks is among the steps, by the text of the first steps, and by the full one.
+abbrev pub sought : (List StepRec → Bool) → (Opened → Scan → List StepRec → List ℕ) → (Opened → Scan → List ℕ) → Doing
+sought there text full = of_recording true (λ o s. there (settled_steps o s)) full (settled_by text)
+
+-- nothing is sought
 abbrev pub streamed : (Opened → Scan → List StepRec → List ℕ) → (Opened → Scan → List ℕ) → Doing
-streamed text full = of_recording true (λ o s. true) full (settled_by text)
+streamed text full = sought (λ records. true) text full
 
 -- ---- a teller
 

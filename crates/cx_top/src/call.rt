@@ -10,8 +10,11 @@ ghost use Rattle.cx_top.specs.Call.{Carries, IsUnasked, MayAnswer, input_behind,
 ghost use Rattle.cx_top.specs.Doing.{CausedBy, Consumes, IsUntouched, Judges};
 
 use crate::lines::Lines;
+use crate::process::Process;
 use crate::record::{record_seed, record_steps};
 use crate::replay::replay;
+use crate::root_lines::RootLines;
+use crate::roots::roots;
 use crate::status::Status;
 use crate::stream::stream;
 use crate::trace_window::trace_window;
@@ -32,10 +35,10 @@ use std::alloc::Global;
 ///
 /// - `Usage`: exactly where the words aren't a command's; nothing is read or written.
 /// - `NotBuilt`: at 0, exactly where the words are those of a command that isn't built, and nothing is read; or where
-///   `replay` meets the magic of a slice. Nothing is written.
+///   `replay` meets the magic of a slice by calls. Nothing is written.
 /// - `Format`, `Broken`: exactly where the first bad place of the input says so, and no fault came first.
-/// - `NotThere`: exactly where the input is a recording without the window's steps; only of `window` and
-///   `trace window`.
+/// - `NotThere`: exactly where the input is a recording without the window's steps, of `window` and `trace window`, or
+///   without a step that shows anything of the root's program, of `process` and `trace root`. Nothing is written.
 /// - `ReadFault`, `WriteFault`, `WorldFault`: only where the count of faults of the source, of the sink, of the world,
 ///   rose in this call. Before a fault of the source nothing bad was given. `WorldFault` is only of `record` without a
 ///   seed.
@@ -49,6 +52,8 @@ use std::alloc::Global;
 /// answer but `Done`, `WriteFault` and `NoMemory`, after which it holds the window's recording, or the lines of its
 /// steps, behind what it held, or a front of that.
 ///
+/// `roots` writes its lines once the whole input was judged, as `trace window` does.
+///
 /// `record` writes nothing before the whole image was judged either. After `Done` the sink holds a recording that is
 /// accepted, whose run is that of the machine over the world's answers, or the seed's: at most so many steps, and fewer
 /// only where the last one stored to the power switch. After `WorldFault` it holds the whole blocks of 4,096 bytes of
@@ -58,7 +63,11 @@ use std::alloc::Global;
 /// `trace all` and `replay` write the lines of the steps as they are settled: after `Done` all of them; after `Format`,
 /// `Broken` and `ReadFault` as many whole blocks of 4,096 bytes as the lines of the settled steps fill; after
 /// `WriteFault` and `NoMemory` a front of these lines. `upgrade` does the same with its recording: the header and the
-/// pages are written once all of them were read, and the records of a step once it is settled.
+/// pages are written once all of them were read, and the records of a step once it is settled. `process` does it with
+/// its slice: the group of a step is written once the step is settled, and `trace root` with the line of what the step
+/// shows. Of a process slice `replay` writes the lines of
+/// the observations that it goes through; the steps behind its last group are settled once nothing was seen to follow
+/// its end.
 pub fn run<S: Source, T: Sink, W: World>(
     alloc: Global,
     words: &[String],
@@ -91,9 +100,12 @@ pub fn run<S: Source, T: Sink, W: World>(
             source,
             sink,
         ),
-        Some(Command::TraceAll) => stream::<Lines, S, T>(alloc, source, sink),
+        Some(Command::Process(root)) => stream::<Process, S, T>(alloc, root, source, sink),
+        Some(Command::TraceAll) => stream::<Lines, S, T>(alloc, (), source, sink),
+        Some(Command::TraceRoot(root)) => stream::<RootLines, S, T>(alloc, root, source, sink),
         Some(Command::Replay) => replay(alloc, source, sink),
-        Some(Command::Upgrade) => stream::<Upgrade, S, T>(alloc, source, sink),
+        Some(Command::Roots) => roots(alloc, source, sink),
+        Some(Command::Upgrade) => stream::<Upgrade, S, T>(alloc, (), source, sink),
         Some(Command::Record(steps)) => record_steps(alloc, steps, source, sink, world),
         Some(Command::RecordSeed(steps, seed)) => record_seed(alloc, steps, seed, source, sink),
         Some(_) => Status::NotBuilt(0),

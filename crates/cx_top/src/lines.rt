@@ -38,23 +38,35 @@ impl Lines {
 
 impl Teller for Lines {
     ghost use Rattle.cx_top.specs.Streaming.{settled_by};
-    ghost use Rattle.cx_top.specs.Growing.{lines_grow};
+    ghost use Rattle.std.specs.Prelude.{false, true, IsTrue};
+    ghost use Rattle.cx_top.specs.Growing.{lines_grow, never_missing};
     ghost use Rattle.cx_top.specs.Trace.{line_text};
 
-    ghost text = { line_text };
+    type Asked = ();
 
-    ghost full = { settled_by line_text };
+    ghost text = { λ asked. line_text };
+
+    ghost full = { λ asked. settled_by line_text };
+
+    ghost seeks = { false };
+
+    ghost there = { λ asked records. true };
 
     ghost waiting = { λ l. l.bytes };
 
-    ghost keeps = { λ l o whole given. Unit {0} };
+    ghost keeps = { λ l asked o whole given. Unit {0} };
 
-    ghost ready = { λ l. l.live };
+    ghost ready = { λ l. IsTrue l.live };
 
-    ghost grows = { lines_grow };
+    ghost found = { λ l. true };
+
+    ghost grows = { λ asked. lines_grow };
+
+    ghost unwritten = { λ asked o whole given never. never_missing never };
 
     fn start<T: Sink>(
         alloc: Global,
+        _asked: (),
         _header: &Header,
         _machine: &Machine,
         _sink: &mut T,
@@ -70,6 +82,10 @@ impl Teller for Lines {
         sink: &mut T,
     ) -> Result<(), OutFault> {
         step_line(&mut self.out, step, rec, sink)
+    }
+
+    fn is_there(&self) -> bool {
+        true
     }
 
     fn finish<T: Sink>(self, _end: u64, sink: &mut T) -> Result<(), OutFault> {

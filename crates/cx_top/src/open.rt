@@ -31,8 +31,10 @@ pub struct Opening {
 pub enum Magic {
     /// A recording.
     Recording,
-    /// A slice of a process, or one by its calls. Neither is read yet.
-    Slice,
+    /// A slice of a process.
+    Process,
+    /// A slice by its calls, which isn't read yet.
+    Calls,
 }
 
 /// Reads the magic, four bytes as one field. `Format` comes exactly where they aren't there, or are those of none of
@@ -52,10 +54,10 @@ pub(crate) fn read_magic<S: Source>(bytes: &mut Bytes, source: &mut S) -> Result
         return Ok(Magic::Recording);
     }
     if field == *b"CXP1" {
-        return Ok(Magic::Slice);
+        return Ok(Magic::Process);
     }
     if field == *b"CXC1" {
-        return Ok(Magic::Slice);
+        return Ok(Magic::Calls);
     }
     Err(LogFault::Format(start))
 }
@@ -163,6 +165,7 @@ pub(crate) fn open<S: Source>(alloc: Global, source: &mut S) -> Result<Opening, 
     let magic = read_magic(&mut bytes, source)?;
     match magic {
         Magic::Recording => open_behind(alloc, bytes, source),
-        Magic::Slice => Err(LogFault::Format(0)),
+        Magic::Process => Err(LogFault::Format(0)),
+        Magic::Calls => Err(LogFault::Format(0)),
     }
 }

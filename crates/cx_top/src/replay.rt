@@ -1,6 +1,6 @@
 //! The command `replay`.
 
-ghost use Rattle.std.specs.Prelude.{◌≡◌, [], List, ℕ, unwrap_or, true, IfErr, IsSome, IsTrue, OnOk};
+ghost use Rattle.std.specs.Prelude.{◌≡◌, [], List, ℕ, unwrap_or, true, false, IfErr, IsSome, IsTrue};
 ghost use Rattle.cx_io.specs.Cause.{HasCause};
 ghost use Rattle.cx_codec.specs.Place.{end_of};
 ghost use Rattle.cx_codec.specs.Reads.{Begins, over, place_in};
@@ -8,13 +8,15 @@ ghost use Rattle.cx_log.specs.Reading.{start_of};
 ghost use Rattle.cx_map.specs.Bytes.{AreBytes};
 ghost use Rattle.cx_replay.specs.Records.{GaveMore, MayBeWhole};
 ghost use Rattle.cx_top.specs.Call.{input_behind};
-ghost use Rattle.cx_top.specs.Doing.{Answers, CausedBy, Consumes, Does, IsUntouched, Judges, Leaves};
+ghost use Rattle.cx_top.specs.Doing.{Answers, CausedBy, Consumes, Does, IsUntouched, Judges, Leaves, ended};
 ghost use Rattle.cx_top.specs.Opening.{begun_at, behind_magic_at};
+ghost use Rattle.cx_top.specs.Replay.{IsReplayRefusal, IsReplayStatus, replaying};
 ghost use Rattle.cx_top.specs.Streaming.{IsStreamRefusal};
-ghost use Rattle.cx_top.specs.Trace.{IsReplayRefusal, IsReplayStatus, replaying, tracing};
+ghost use Rattle.cx_top.specs.Trace.{tracing};
 
 use crate::lines::Lines;
 use crate::open::{Magic, open_behind, read_magic};
+use crate::replay_process::replay_process;
 use crate::status::Status;
 use crate::stream::run_opened;
 use cx_codec::Bytes;
@@ -38,16 +40,16 @@ fn replay_recording<S: Source, T: Sink>(
         → end_of (start_of text) ≡ end_of (place_in (over bytes (S.left source.old) (S.given source.old)) input)
         → Does tracing text (MayBeWhole (S.left source.new) (S.given source.new) input)
         (input ≡ S.given source.new) (T.held sink.old) (T.held sink.new) result }
-    ensures spent { IsSome (S.left source.old) → OnOk result (unwrap_or (S.left source.new) [] ≡ []) }
-    ensures kind { IfErr result IsStreamRefusal }
+    ensures spent { IsSome (S.left source.old) → Judges true (ended result) → unwrap_or (S.left source.new) [] ≡ [] }
+    ensures kind { IfErr result (IsStreamRefusal false) }
     ensures read_cause { HasCause Status.ReadFault (S.faults source.old) (S.faults source.new) result }
     ensures write_cause { HasCause Status.WriteFault (T.faults sink.old) (T.faults sink.new) result }
 {
     let opening = open_behind(alloc, bytes, source)?;
-    run_opened::<Lines, S, T>(alloc, opening, source, sink)
+    run_opened::<Lines, S, T>(alloc, (), opening, source, sink)
 }
 
-// Reads an input, and puts the lines of its steps. The magic of a slice is told apart.
+// Reads an input, by its magic, and puts the lines of its steps or of its observations.
 fn read_replay<S: Source, T: Sink>(
     alloc: Global,
     source: &mut S,
@@ -60,7 +62,7 @@ fn read_replay<S: Source, T: Sink>(
         → Does replaying (input_behind (S.given source.old) input)
         (MayBeWhole (S.left source.new) (S.given source.new) input) (input ≡ S.given source.new)
         (T.held sink.old) (T.held sink.new) result }
-    ensures spent { IsSome (S.left source.old) → OnOk result (unwrap_or (S.left source.new) [] ≡ []) }
+    ensures spent { IsSome (S.left source.old) → Judges true (ended result) → unwrap_or (S.left source.new) [] ≡ [] }
     ensures kind { IfErr result IsReplayRefusal }
     ensures untouched { IfErr result (λ status. IsUntouched true status → sink.new ≡ sink.old) }
     ensures read_cause { HasCause Status.ReadFault (S.faults source.old) (S.faults source.new) result }
@@ -70,12 +72,13 @@ fn read_replay<S: Source, T: Sink>(
     let magic = read_magic(&mut bytes, source)?;
     match magic {
         Magic::Recording => replay_recording(alloc, bytes, source, sink),
-        Magic::Slice => Err(Status::NotBuilt(0)),
+        Magic::Process => replay_process(alloc, bytes, source, sink),
+        Magic::Calls => Err(Status::NotBuilt(0)),
     }
 }
 
-/// Reads an input, runs it, and writes a line for each step, as the steps are settled: those of a recording, and
-/// nothing yet of a slice.
+/// Reads an input, runs it, and writes a line for each step, as the steps are settled: of a recording that of the step,
+/// and of a process slice that of its observation. Slices by calls aren't built.
 pub(crate) fn replay<S: Source, T: Sink>(alloc: Global, source: &mut S, sink: &mut T) -> Status
     ensures answer { IsSome (S.left source.old) → (input : List ℕ) → Begins (S.given source.new) input
         → AreBytes (input_behind (S.given source.old) input)

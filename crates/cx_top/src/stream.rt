@@ -1,6 +1,6 @@
 //! Commands that read a recording, and write as its steps are settled.
 
-ghost use Rattle.std.specs.Prelude.{◌≡◌, [], List, ℕ, unwrap_or, true, IfErr, IsSome, Ok, OnOk};
+ghost use Rattle.std.specs.Prelude.{◌≡◌, [], List, ℕ, unwrap_or, true, IfErr, IsSome, Ok};
 ghost use Rattle.cx_io.specs.Cause.{HasCause};
 ghost use Rattle.cx_codec.specs.Reads.{Begins, over, place_in};
 ghost use Rattle.cx_log.specs.Reading.{start_of};
@@ -9,9 +9,9 @@ ghost use Rattle.cx_map.specs.Bytes.{AreBytes};
 ghost use Rattle.cx_replay.specs.LogRecords.{IsBegun};
 ghost use Rattle.cx_replay.specs.Records.{GaveMore, MayBeWhole};
 ghost use Rattle.cx_top.specs.Call.{input_behind};
-ghost use Rattle.cx_top.specs.Doing.{Answers, CausedBy, Consumes, Does, IsUntouched, Judges, Leaves};
+ghost use Rattle.cx_top.specs.Doing.{Answers, CausedBy, Consumes, Does, IsUntouched, Judges, Leaves, ended};
 ghost use Rattle.cx_top.specs.Opening.{begun_at};
-ghost use Rattle.cx_top.specs.Streaming.{IsStreamRefusal, IsStreamStatus, streamed};
+ghost use Rattle.cx_top.specs.Streaming.{IsStreamRefusal, IsStreamStatus, sought};
 
 use crate::open::{Opening, open};
 use crate::status::Status;
@@ -23,6 +23,7 @@ use std::alloc::Global;
 /// Runs an opened recording, and tells its steps.
 pub(crate) fn run_opened<W: Teller, S: Source, T: Sink>(
     alloc: Global,
+    asked: W::Asked,
     opening: Opening,
     source: &mut S,
     sink: &mut T,
@@ -39,15 +40,15 @@ pub(crate) fn run_opened<W: Teller, S: Source, T: Sink>(
           record { header = opening.reader.header; memory = opening.machine.memory },
           place_in (over opening.reader.input (S.left source.old) (S.given source.old)) input,
         )
-        → Does (streamed W.text W.full) bytes (MayBeWhole (S.left source.new) (S.given source.new) input)
+        → Does (sought (W.there asked) (W.text asked) (W.full asked)) bytes (MayBeWhole (S.left source.new) (S.given source.new) input)
         (input ≡ S.given source.new) (T.held sink.old) (T.held sink.new) result }
-    ensures spent { IsSome (S.left source.old) → OnOk result (unwrap_or (S.left source.new) [] ≡ []) }
-    ensures kind { IfErr result IsStreamRefusal }
+    ensures spent { IsSome (S.left source.old) → Judges true (ended result) → unwrap_or (S.left source.new) [] ≡ [] }
+    ensures kind { IfErr result (IsStreamRefusal W.seeks) }
     ensures read_cause { HasCause Status.ReadFault (S.faults source.old) (S.faults source.new) result }
     ensures write_cause { HasCause Status.WriteFault (T.faults sink.old) (T.faults sink.new) result }
 {
     let Opening { reader, machine } = opening;
-    let teller = W::start(alloc, reader.header(), &machine, sink)?;
+    let teller = W::start(alloc, asked, reader.header(), &machine, sink)?;
     let replay = Replay::of_log(alloc, reader, machine);
     tell_run(replay, teller, source, sink)
 }
@@ -55,6 +56,7 @@ pub(crate) fn run_opened<W: Teller, S: Source, T: Sink>(
 // Reads a recording, runs it, and tells its steps.
 fn read_run<W: Teller, S: Source, T: Sink>(
     alloc: Global,
+    asked: W::Asked,
     source: &mut S,
     sink: &mut T,
 ) -> Result<(), Status>
@@ -62,42 +64,44 @@ fn read_run<W: Teller, S: Source, T: Sink>(
         (S.given source.new) }
     ensures does { IsSome (S.left source.old) → (input : List ℕ) → Begins (S.given source.new) input
         → AreBytes (input_behind (S.given source.old) input)
-        → Does (streamed W.text W.full) (input_behind (S.given source.old) input)
+        → Does (sought (W.there asked) (W.text asked) (W.full asked)) (input_behind (S.given source.old) input)
         (MayBeWhole (S.left source.new) (S.given source.new) input) (input ≡ S.given source.new)
         (T.held sink.old) (T.held sink.new) result }
-    ensures spent { IsSome (S.left source.old) → OnOk result (unwrap_or (S.left source.new) [] ≡ []) }
-    ensures kind { IfErr result IsStreamRefusal }
+    ensures spent { IsSome (S.left source.old) → Judges true (ended result) → unwrap_or (S.left source.new) [] ≡ [] }
+    ensures kind { IfErr result (IsStreamRefusal W.seeks) }
     ensures read_cause { HasCause Status.ReadFault (S.faults source.old) (S.faults source.new) result }
     ensures write_cause { HasCause Status.WriteFault (T.faults sink.old) (T.faults sink.new) result }
 {
     let opening = open(alloc, source)?;
-    run_opened::<W, S, T>(alloc, opening, source, sink)
+    run_opened::<W, S, T>(alloc, asked, opening, source, sink)
 }
 
-/// The command that reads a recording, runs it, and tells its steps as they are settled.
+/// The command that reads a recording, runs it, and tells its steps as they are settled. `NotThere` comes exactly where
+/// nothing is bad in the recording, and what the teller seeks isn't among its steps.
 pub(crate) fn stream<W: Teller, S: Source, T: Sink>(
     alloc: Global,
+    asked: W::Asked,
     source: &mut S,
     sink: &mut T,
 ) -> Status
     ensures answer { IsSome (S.left source.old) → (input : List ℕ) → Begins (S.given source.new) input
         → AreBytes (input_behind (S.given source.old) input)
-        → Answers (streamed W.text W.full) (input_behind (S.given source.old) input)
+        → Answers (sought (W.there asked) (W.text asked) (W.full asked)) (input_behind (S.given source.old) input)
         (MayBeWhole (S.left source.new) (S.given source.new) input) (input ≡ S.given source.new) result }
     ensures leaves { IsSome (S.left source.old) → (input : List ℕ) → Begins (S.given source.new) input
         → AreBytes (input_behind (S.given source.old) input)
-        → Leaves (streamed W.text W.full) (input_behind (S.given source.old) input)
+        → Leaves (sought (W.there asked) (W.text asked) (W.full asked)) (input_behind (S.given source.old) input)
         (MayBeWhole (S.left source.new) (S.given source.new) input) (input ≡ S.given source.new) result
         (T.held sink.old) (T.held sink.new) }
     ensures consumes { IsSome (S.left source.old)
         → Consumes (S.left source.old) (S.given source.old) (S.left source.new) (S.given source.new)
         (Judges true result) }
-    ensures kind { IsStreamStatus result }
+    ensures kind { IsStreamStatus W.seeks result }
     ensures untouched { IsUntouched true result → sink.new ≡ sink.old }
     ensures read_cause { CausedBy Status.ReadFault (S.faults source.old) (S.faults source.new) result }
     ensures write_cause { CausedBy Status.WriteFault (T.faults sink.old) (T.faults sink.new) result }
 {
-    match read_run::<W, S, T>(alloc, source, sink) {
+    match read_run::<W, S, T>(alloc, asked, source, sink) {
         Ok(()) => Status::Done,
         Err(status) => status,
     }

@@ -152,23 +152,35 @@ impl Upgrade {
 }
 
 impl Teller for Upgrade {
-    ghost use Rattle.cx_top.specs.Growing.{upgrade_grows};
+    ghost use Rattle.std.specs.Prelude.{false, true, IsTrue};
+    ghost use Rattle.cx_top.specs.Growing.{never_missing, upgrade_grows};
     ghost use Rattle.cx_top.specs.Upgrade.{HasUpgraded, upgrade_full, upgrade_text};
 
-    ghost text = { upgrade_text };
+    type Asked = ();
 
-    ghost full = { upgrade_full };
+    ghost text = { λ asked. upgrade_text };
+
+    ghost full = { λ asked. upgrade_full };
+
+    ghost seeks = { false };
+
+    ghost there = { λ asked records. true };
 
     ghost waiting = { λ w. w.output.bytes };
 
-    ghost keeps = { λ w o whole given. HasUpgraded o whole given w };
+    ghost keeps = { λ w asked o whole given. HasUpgraded o whole given w };
 
-    ghost ready = { λ w. w.output.live };
+    ghost ready = { λ w. IsTrue w.output.live };
 
-    ghost grows = { upgrade_grows };
+    ghost found = { λ w. true };
+
+    ghost grows = { λ asked. upgrade_grows };
+
+    ghost unwritten = { λ asked o whole given never. never_missing never };
 
     fn start<T: Sink>(
         alloc: Global,
+        _asked: (),
         header: &Header,
         machine: &Machine,
         sink: &mut T,
@@ -189,6 +201,10 @@ impl Teller for Upgrade {
         sink: &mut T,
     ) -> Result<(), OutFault> {
         self.put_step(step, due, sink)
+    }
+
+    fn is_there(&self) -> bool {
+        true
     }
 
     fn finish<T: Sink>(self, end: u64, sink: &mut T) -> Result<(), OutFault> {

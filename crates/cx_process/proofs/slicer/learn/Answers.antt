@@ -7,14 +7,14 @@ use Rattle.cx_process.proofs.Standing.{map_stays, no_items_at, no_least, no_text
 use Rattle.cx_process.proofs.slicer.learn.Goals as goal
 
 pub returns-then-has-clause-puts : goal.returns-then-has-clause-puts
-returns-then-has-clause-puts g c = puts_along [] (step_text (g.W.Groups.least c.args.groups.now) c.args.count
+returns-then-has-clause-puts g c = puts_along [] (step_text c.args.groups.now.least c.args.count
     (known_by c.args.standing.now) c.args.obs.now)
-    (no_text (g.W.Groups.least c.args.groups.now) c.args.count (known_by c.args.standing.now) c.args.obs.now
+    (no_text c.args.groups.now.least c.args.count (known_by c.args.standing.now) c.args.obs.now
     (no_items_at (known_by c.args.standing.now) c.args.obs.now (c.has.ensures c.if-has.true)))
     (puts_none c.requires.live)
 
 pub returns-then-has-clause-least : goal.returns-then-has-clause-least
-returns-then-has-clause-least g c = no_least (g.W.Groups.least c.args.groups.now) c.args.count
+returns-then-has-clause-least g c = no_least c.args.groups.now.least c.args.count
     (known_by c.args.standing.now) c.args.obs.now
     (no_items_at (known_by c.args.standing.now) c.args.obs.now (c.has.ensures c.if-has.true))
 

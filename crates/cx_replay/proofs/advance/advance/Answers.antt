@@ -54,4 +54,4 @@ returns-clause-answers g c told input begins end o whole given stands =
 pub returns-clause-formed : goal.returns-clause-formed
 returns-clause-formed g c =
     let goes = rw c.if-not-branch-2.false at c.in_ok-take_step.ensures.step in
-    (goes.0, (goes.1.1, (well_formed _ _ _ (record { machine = _; rec = goes.0 }) goes.1.0).walked))
+    (goes.0, (goes.1.1, well_formed _ _ _ (record { machine = _; rec = goes.0 }) goes.1.0))

@@ -1,4 +1,4 @@
-use Rattle.std.proofs.Common.{arith, refl, sym, ◌∙◌, rules}
+use Rattle.std.proofs.Common.{arith, sym, ◌∙◌, rules}
 use Rattle.std.proofs.lemmas.List.{append-nil}
 use Rattle.cx_slicefmt.proofs.RunLoop.{pair_put}
 use Rattle.cx_slicefmt.proofs.pieces.push_run.Goals as goal

@@ -1,6 +1,6 @@
-use Rattle.std.proofs.Common.{refl, arith, ◌≡◌, ap, ◌∙◌, sym}
+use Rattle.std.proofs.Common.{refl, arith, ◌≡◌}
 use Rattle.std.proofs.lemmas.Result.{err_from_is_err_and}
-use Rattle.cx_codec.proofs.Composing.{fails, goes, gives}
+use Rattle.cx_codec.proofs.Composing.{fails, goes}
 use Rattle.cx_slicefmt.specs.Reading.{entry_at}
 use Rattle.cx_slicefmt.proofs.reading.entry.Goals as goal
 

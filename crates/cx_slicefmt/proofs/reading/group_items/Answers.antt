@@ -1,4 +1,4 @@
-use Rattle.std.proofs.Common.{refl, ◌≡◌}
+use Rattle.std.proofs.Common.{refl}
 use Rattle.std.proofs.lemmas.Result.{err_from_is_err_and}
 use Rattle.cx_codec.proofs.Composing.{fails, goes, gives}
 use Rattle.cx_slicefmt.proofs.ItemParts.{items_parts}

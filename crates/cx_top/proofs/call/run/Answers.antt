@@ -1,8 +1,8 @@
 use Rattle.std.proofs.Common.{◌≡◌, Some, map, refl}
 use Rattle.std.specs.String.{string_bytes}
 use Rattle.cx_words.specs.declared.command.Command.TheVariants.{Window, TraceWindow, TraceAll, Record, RecordSeed}
-use Rattle.cx_words.specs.declared.command.Command.TheVariants.{Replay}
-use Rattle.cx_words.specs.declared.command.Command.TheVariants.{Upgrade}
+use Rattle.cx_words.specs.declared.command.Command.TheVariants.{Process, Replay}
+use Rattle.cx_words.specs.declared.command.Command.TheVariants.{Roots, TraceRoot, Upgrade}
 use Rattle.cx_words.specs.Parse.{parse}
 use Rattle.cx_top.proofs.Carrying.{carries_as, carries_unasked}
 use Rattle.cx_top.proofs.Recordings.{carries_steps}
@@ -22,7 +22,24 @@ returns-in-Some-TraceWindow-clause-carries g c told input begins are =
 pub returns-in-Some-TraceAll-clause-carries : goal.returns-in-Some-TraceAll-clause-carries
 returns-in-Some-TraceAll-clause-carries g c told input begins are =
     carries_unasked _ (Some TraceAll) _ _ _ _ _ _ _ (cc) refl
+    (c.stream-in-Some-TraceAll.ensures.answer told input begins are)
+    (c.stream-in-Some-TraceAll.ensures.leaves told input begins are)
+
+pub returns-in-Some-Process-clause-carries : goal.returns-in-Some-Process-clause-carries
+returns-in-Some-Process-clause-carries g c told input begins are =
+    carries_unasked _ (Some (Process c.in-Some-Process.root)) _ _ _ _ _ _ _ (cc) refl
     (c.stream.ensures.answer told input begins are) (c.stream.ensures.leaves told input begins are)
+
+pub returns-in-Some-TraceRoot-clause-carries : goal.returns-in-Some-TraceRoot-clause-carries
+returns-in-Some-TraceRoot-clause-carries g c told input begins are =
+    carries_unasked _ (Some (TraceRoot c.in-Some-TraceRoot.root)) _ _ _ _ _ _ _ (cc) refl
+    (c.stream-in-Some-TraceRoot.ensures.answer told input begins are)
+    (c.stream-in-Some-TraceRoot.ensures.leaves told input begins are)
+
+pub returns-in-Some-Roots-clause-carries : goal.returns-in-Some-Roots-clause-carries
+returns-in-Some-Roots-clause-carries g c told input begins are =
+    carries_unasked _ (Some Roots) _ _ _ _ _ _ _ (cc) refl
+    (c.roots.ensures.answer told input begins are) (c.roots.ensures.leaves told input begins are)
 
 pub returns-in-Some-Replay-clause-carries : goal.returns-in-Some-Replay-clause-carries
 returns-in-Some-Replay-clause-carries g c told input begins are =

@@ -36,9 +36,19 @@ returns-in-Recording-clause-opens g c told =
       keeps = opened.keeps;
     }
 
-pub returns-in-Slice-clause-opens : goal.returns-in-Slice-clause-opens
-returns-in-Slice-clause-opens g c told =
-    let magic = rw (c.in_ok-bytes.ensures, c.in-Slice.is) at (c.in_ok-magic.ensures.reads told) in
+pub returns-in-Process-clause-opens : goal.returns-in-Process-clause-opens
+returns-in-Process-clause-opens g c told =
+    let magic = rw (c.in_ok-bytes.ensures, c.in-Process.is) at (c.in_ok-magic.ensures.reads told) in
+    record {
+      behind = c.read_magic.new.bytes;
+      reads = goes {reader = begun_at} behind_kind begun_parts magic
+          (breaks 0 magic.follows.told refl (λ p. refl));
+      keeps = tt;
+    }
+
+pub returns-in-Calls-clause-opens : goal.returns-in-Calls-clause-opens
+returns-in-Calls-clause-opens g c told =
+    let magic = rw (c.in_ok-bytes.ensures, c.in-Calls.is) at (c.in_ok-magic.ensures.reads told) in
     record {
       behind = c.read_magic.new.bytes;
       reads = goes {reader = begun_at} behind_kind begun_parts magic

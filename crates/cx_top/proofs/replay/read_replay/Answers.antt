@@ -4,8 +4,8 @@ use Rattle.cx_codec.proofs.Following.{begins_on, end_stays}
 use Rattle.cx_replay.proofs.Giving.{gave_on}
 use Rattle.cx_replay.specs.Records.{MayBeWhole}
 use Rattle.cx_top.specs.Call.{input_behind}
-use Rattle.cx_top.proofs.Consuming.{gave_of_follows}
-use Rattle.cx_top.proofs.Replayed.{behind_recording, refuses_magic, refuses_slice, replays_recording}
+use Rattle.cx_top.proofs.Consuming.{gave_of_follows, log_is_early}
+use Rattle.cx_top.proofs.Replayed.{behind_recording, refuses_magic, refuses_calls, replays_recording}
 use Rattle.cx_top.proofs.replay.read_replay.Goals as goal
 
 pub returns-in_err-magic-clause-does : goal.returns-in_err-magic-clause-does
@@ -31,10 +31,35 @@ returns-in-Recording-clause-does g c told input begins are =
     c.replay_recording.result kind (c.replay_recording.ensures.does magic.follows.told input _ begins are
     (behind_recording _ _ kind) (end_stays magic.follows input first))
 
-pub returns-in-Slice-clause-follows : goal.returns-in-Slice-clause-follows
-returns-in-Slice-clause-follows g c told = gave_of_follows (c.in_ok-magic.ensures.reads told).follows
+pub returns-in-Calls-clause-follows : goal.returns-in-Calls-clause-follows
+returns-in-Calls-clause-follows g c told = gave_of_follows (c.in_ok-magic.ensures.reads told).follows
 
-pub returns-in-Slice-clause-does : goal.returns-in-Slice-clause-does
-returns-in-Slice-clause-does g c told input begins are =
-    let magic = rw (c.in_ok-bytes.ensures, c.in-Slice.is) at (c.in_ok-magic.ensures.reads told) in
-    refuses_slice _ _ (Unit {0}) (Unit {0}) (g.T.Sink.held c.args.sink.now) (magic.reads input begins)
+pub returns-in-Calls-clause-does : goal.returns-in-Calls-clause-does
+returns-in-Calls-clause-does g c told input begins are =
+    let magic = rw (c.in_ok-bytes.ensures, c.in-Calls.is) at (c.in_ok-magic.ensures.reads told) in
+    refuses_calls _ _ (Unit {0}) (Unit {0}) (g.T.Sink.held c.args.sink.now) (magic.reads input begins)
+
+pub returns-in-Process-clause-follows : goal.returns-in-Process-clause-follows
+returns-in-Process-clause-follows g c told =
+    let magic = c.in_ok-magic.ensures.reads told in
+    gave_on (gave_of_follows magic.follows) (c.replay_process.ensures.follows magic.follows.told)
+
+pub returns-in-Process-clause-does : goal.returns-in-Process-clause-does
+returns-in-Process-clause-does g c told input begins are =
+    let magic = rw (c.in_ok-bytes.ensures, c.in-Process.is) at (c.in_ok-magic.ensures.reads told) in
+    let first = begins_on (c.replay_process.ensures.follows magic.follows.told).grows begins in
+    c.replay_process.ensures.does magic.follows.told input _ begins are (magic.reads input first)
+    (end_stays magic.follows input first)
+
+pub returns-in_err-magic-clause-spent : goal.returns-in_err-magic-clause-spent
+returns-in_err-magic-clause-spent g c told =
+    let p = err_from_is_err_and c.from_residual-in_err-magic.result c.from_residual-in_err-magic.ensures.1 in
+    rw (p.1, p.2) (λ j. absurd (log_is_early c.in_err-magic.field-0.0 j))
+
+pub returns-in-Recording-clause-spent : goal.returns-in-Recording-clause-spent
+returns-in-Recording-clause-spent g c told =
+    c.replay_recording.ensures.spent (c.in_ok-magic.ensures.reads told).follows.told
+
+pub returns-in-Process-clause-spent : goal.returns-in-Process-clause-spent
+returns-in-Process-clause-spent g c told =
+    c.replay_process.ensures.spent (c.in_ok-magic.ensures.reads told).follows.told

@@ -6,7 +6,7 @@ use Rattle.cx_codec.specs.Reads.{over, place_in}
 use Rattle.cx_top.specs.Opening.{behind_magic_at}
 use Rattle.cx_top.specs.Streaming.{settled_by}
 use Rattle.cx_top.specs.Trace.{line_text}
-use Rattle.cx_top.proofs.Consuming.{gave_of_follows}
+use Rattle.cx_top.proofs.Consuming.{gave_of_follows, log_is_early}
 use Rattle.cx_top.proofs.Doings.{refused_opening}
 use Rattle.cx_replay.proofs.Giving.{gave_on}
 use Rattle.cx_top.proofs.replay.replay_recording.Goals as goal
@@ -19,6 +19,14 @@ returns-in_err-opening-clause-does g c told input text begins are same ends =
 
 pub returns-in_err-opening-clause-follows : goal.returns-in_err-opening-clause-follows
 returns-in_err-opening-clause-follows g c told = gave_of_follows (c.in_err-opening.ensures.opens told).reads.follows
+
+pub returns-in_err-opening-clause-spent : goal.returns-in_err-opening-clause-spent
+returns-in_err-opening-clause-spent g c told =
+    let p = err_from_is_err_and c.from_residual.result c.from_residual.ensures.1 in
+    rw (p.1, p.2) (λ j. absurd (log_is_early c.in_err-opening.field-0.0 j))
+
+pub returns-clause-spent : goal.returns-clause-spent
+returns-clause-spent g c told = c.run_opened.ensures.spent (c.in_ok-opening.ensures.opens told).reads.follows.told
 
 pub returns-clause-follows : goal.returns-clause-follows
 returns-clause-follows g c told =

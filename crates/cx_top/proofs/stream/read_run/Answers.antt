@@ -6,6 +6,7 @@ use Rattle.cx_codec.specs.Reads.{over, place_in}
 use Rattle.cx_log.specs.Reading.{start_of}
 use Rattle.cx_top.specs.Call.{input_behind}
 use Rattle.cx_top.specs.Opening.{begun_at}
+use Rattle.cx_top.proofs.Consuming.{log_is_early}
 use Rattle.cx_top.proofs.Doings.{refused_opening}
 use Rattle.cx_top.proofs.stream.read_run.Goals as goal
 
@@ -27,3 +28,8 @@ returns-clause-does g c told input begins are =
     )) (sym opened.keeps) read in
     c.run_opened.ensures.does opened.reads.follows.told input
     (input_behind (g.S.Source.given c.args.source.now) input) begins are stood
+
+pub returns-in_err-opening-clause-spent : goal.returns-in_err-opening-clause-spent
+returns-in_err-opening-clause-spent g c told =
+    let p = err_from_is_err_and c.from_residual.result c.from_residual.ensures.1 in
+    rw (p.1, p.2) (λ j. absurd (log_is_early c.in_err-opening.field-0.0 j))

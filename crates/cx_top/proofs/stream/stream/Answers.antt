@@ -1,5 +1,4 @@
-use Rattle.cx_top.proofs.Consuming.{consumes_some}
-use Rattle.cx_top.proofs.Streamed.{refusal_is_early, stream_writes}
+use Rattle.cx_top.proofs.Streamed.{stream_writes}
 use Rattle.cx_top.proofs.stream.stream.Goals as goal
 
 pub returns-in-Err-clause-answer : goal.returns-in-Err-clause-answer
@@ -7,7 +6,7 @@ returns-in-Err-clause-answer g c told input begins are = (c.in-Err.ensures.does 
 
 pub returns-in-Err-clause-consumes : goal.returns-in-Err-clause-consumes
 returns-in-Err-clause-consumes g c told =
-    consumes_some (c.in-Err.ensures.follows told) (refusal_is_early c.in-Err.status c.in-Err.ensures.kind)
+    record { gave = c.in-Err.ensures.follows told; all = λ j. c.in-Err.ensures.spent told j }
 
 pub returns-in-Err-clause-untouched : goal.returns-in-Err-clause-untouched
-returns-in-Err-clause-untouched g c early = absurd (stream_writes c.in-Err.status c.in-Err.ensures.kind early)
+returns-in-Err-clause-untouched g c early = absurd (stream_writes g.W.Teller.seeks c.in-Err.status c.in-Err.ensures.kind early)

@@ -22,18 +22,18 @@ invariant-loop-going g l =
       follows : IsSome (left l.fn.source) → GaveMore (left l.fn.source) (given l.fn.source) (left l.source)
           (given l.source);
       told : IsSome (left l.fn.source) → (input : List ℕ) → Begins (given l.source) input
-          → (end : ℕ) (o : Opened) (whole : Scan) (base : Option (List ℕ)) → IsOrdered o whole
+          → (end : ℕ) (asked : _) (o : Opened) (whole : Scan) (base : Option (List ℕ)) → IsOrdered o whole
           → Stands o whole [] l.fn.replay.machine l.fn.replay.progress (g.R.Records.seen l.fn.replay.records).bytes
           (g.R.Records.has l.fn.replay.records (given l.fn.source) input end)
-          → Told base (text o whole []) (waiting l.fn.teller) (held l.fn.sink) (keeps l.fn.teller o whole [])
+          → Told base (text asked o whole []) (waiting l.fn.teller) (held l.fn.sink) (keeps l.fn.teller asked o whole [])
           → IsTold o whole
-          (λ now. Told base (text o whole now) (waiting l.teller) (held l.sink) (keeps l.teller o whole now))
+          (λ now. Told base (text asked o whole now) (waiting l.teller) (held l.sink) (keeps l.teller asked o whole now))
           (λ now. Stands o whole now l.replay.machine l.replay.progress (g.R.Records.seen l.replay.records).bytes
           (g.R.Records.has l.replay.records (given l.source) input end)) l.replay.progress.at
           (MayBeWhole (left l.source) (given l.source) input) l.going;
       spent : IsSome (left l.fn.source) → OnFalse l.going (g.R.Records.leaves (left l.source));
       live : IsTrue l.replay.live;
-      ready : IsTrue (g.W.Teller.ready l.teller);
+      ready : g.W.Teller.ready l.teller;
       later : faults l.fn.source ≤ faults l.source;
       small : faults l.fn.source < 2 ^ 64 → faults l.source < 2 ^ 64;
       failed : fails l.fn.sink ≤ fails l.sink;

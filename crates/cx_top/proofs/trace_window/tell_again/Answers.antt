@@ -19,7 +19,7 @@ returns-in_err-tell_all-clause-tells g c o whole a b judged cuts =
     let source = c.tell_all.new.source in
     let base = g.T.Sink.held c.args.sink.now in
     rw p.1 (again_stops o whole a b slice 0 (Some source.left) source.given base _ c.in_err-tell_all.field-0.0 judged
-    cuts (c.in_err-tell_all.ensures.tells refl source.given (begins_itself source.given) 0 (opened_of slice)
+    cuts (c.in_err-tell_all.ensures.tells refl source.given (begins_itself source.given) 0 tt (opened_of slice)
     (scan_of slice.events slice.to) base (slice_ordered o whole a b slice judged cuts)
     (c.replay-replay.ensures.stands _ _ _) (none_told base _ (rw c.in_ok-lines.ensures refl))))
 
@@ -29,12 +29,12 @@ returns-in_err-finish-clause-tells g c o whole a b judged cuts =
     let slice = c.args.slice in
     let source = c.tell_all.new.source in
     let base = g.T.Sink.held c.args.sink.now in
-    let all = c.in_ok-tell_all.ensures.tells refl source.given (begins_itself source.given) 0 (opened_of slice)
+    let all = c.in_ok-tell_all.ensures.tells refl source.given (begins_itself source.given) 0 tt (opened_of slice)
     (scan_of slice.events slice.to) base (slice_ordered o whole a b slice judged cuts)
     (c.replay-replay.ensures.stands _ _ _) (none_told base _ (rw c.in_ok-lines.ensures refl))
     in
     rw p.1 (again_front o whole a b slice base _ judged cuts
-    (c.in_err-finish.ensures.finishes (opened_of slice) (scan_of slice.events slice.to) all.0 base
+    (c.in_err-finish.ensures.finishes tt (opened_of slice) (scan_of slice.events slice.to) all.0 base
     (rw c.at.ensures (slice_is_all o whole a b slice all.0 _ _ judged cuts all.1.0)) all.1.1))
 
 pub returns-clause-tells : goal.returns-clause-tells
@@ -42,10 +42,10 @@ returns-clause-tells g c o whole a b judged cuts =
     let slice = c.args.slice in
     let source = c.tell_all.new.source in
     let base = g.T.Sink.held c.args.sink.now in
-    let all = c.in_ok-tell_all.ensures.tells refl source.given (begins_itself source.given) 0 (opened_of slice)
+    let all = c.in_ok-tell_all.ensures.tells refl source.given (begins_itself source.given) 0 tt (opened_of slice)
     (scan_of slice.events slice.to) base (slice_ordered o whole a b slice judged cuts)
     (c.replay-replay.ensures.stands _ _ _) (none_told base _ (rw c.in_ok-lines.ensures refl))
     in
     again_all o whole a b slice base _ judged cuts
-    (c.in_ok-finish.ensures.finishes (opened_of slice) (scan_of slice.events slice.to) all.0 base
+    (c.in_ok-finish.ensures.finishes tt (opened_of slice) (scan_of slice.events slice.to) all.0 base
     (rw c.at.ensures (slice_is_all o whole a b slice all.0 _ _ judged cuts all.1.0)) all.1.1)

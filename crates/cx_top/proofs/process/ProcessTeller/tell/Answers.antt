@@ -1,0 +1,15 @@
+use Rattle.std.proofs.Common.{sym}
+use Rattle.cx_top.specs.Observed.{observations_in}
+use Rattle.cx_top.proofs.FedTold.{fed_told, unseen_told}
+use Rattle.cx_top.proofs.process.ProcessTeller.tell.Goals as goal
+
+pub returns-in-Some-clause-tells : goal.returns-in-Some-clause-tells
+returns-in-Some-clause-tells g c asked o whole given base ordered at within due so_far =
+    fed_told asked c.args.self.now.root given c.args.rec.now c.in-Some.obs c.feed.new.slicer base _ _ so_far.keeps.same
+    (sym c.in-Some.ensures)
+    (c.feed.ensures.feeds (observations_in asked given) base so_far.keeps.taken so_far.stands)
+
+pub returns-in-None-clause-tells : goal.returns-in-None-clause-tells
+returns-in-None-clause-tells g c asked o whole given base ordered at within due so_far =
+    unseen_told asked c.args.self.now.root given c.args.rec.now c.args.self.now.slicer base _ so_far.keeps
+    (sym c.in-None.ensures) so_far.stands
