@@ -23,6 +23,10 @@ RECORDS = True
 not_recorded = not_built(0)
 
 
+# Whether slices by calls are made and replayed. A program that doesn't do it says so.
+SLICES_BY_CALLS = False
+
+
 def without_value(step):
     """The status where this step asks for a value of the outside, and there is none."""
     return broken(step) if CALLS_MISSING_VALUES_BROKEN else not_built(step)

@@ -1,7 +1,8 @@
 """A model of a program that goes alone by its slice: what its steps show, and where it can't go on."""
 from .arithmetic import ALL
+from .calls import ASYNC, CALL, ECALL, VALUE, Head, read_calls
 from .hart import ATOMIC, MISALIGNED, RESERVE, Hart, Trap
-from .observations import SHOWN, observation, words_of
+from .observations import SHOWN, addressed, observation, words_of
 from .recording import State
 from .registers import USER
 from .slices import Group, read_slice
@@ -92,3 +93,63 @@ def alone(data, most=None):
         except Stuck:
             return shows, len(shows), bad
     return shows, None, bad
+
+
+class AloneByCalls(Alone):
+    """The same by a call slice. Bytes of the last head that weren't accessed yet are owed; words of the last head are
+    waiting for the step behind it."""
+
+    def __init__(self, start):
+        super().__init__()
+        self.take_head(start)
+
+    def take_head(self, head):
+        content = head.content()
+        self.is_new = all(self.known.get(va) != byte for va, byte in content.items())
+        self.known |= content
+        self.waiting, self.owed, self.accessed = head.words, set(content), set()
+
+    def is_settled(self):
+        return not self.owed and not self.waiting
+
+    def go_on(self, step, records):
+        """What the next step shows, with its records by their tags."""
+        head = records[ASYNC].head if ASYNC in records else Head({})
+        value = records[VALUE].value if VALUE in records else None
+        if not self.is_new or self.waiting is not None and head.words or not head.content().keys() <= self.accessed:
+            raise Stuck
+        shows = self.go(Group(step, head.words if self.waiting is None else self.waiting, head.runs, value))
+        accessed = self.seen | addressed(shows.written).keys()
+        if self.owed & accessed - self.seen:
+            raise Stuck
+        self.waiting, self.owed, self.accessed = None, self.owed - accessed, self.accessed | accessed
+        self.call(shows, records.get(CALL))
+        return shows
+
+    def call(self, shows, record):
+        """A call has a record with its number, and nothing is owed behind it."""
+        if (shows.word == ECALL) != (record is not None):
+            raise Stuck
+        if record is not None:
+            if record.number != shows.before[17] or self.owed:
+                raise Stuck
+            self.take_head(record.head)
+
+
+def called_alone(data, most=None):
+    """What `alone` says, of an input that should be a call slice."""
+    reader, bad = read_calls(data)
+    if reader.start is None:
+        return [], None, bad
+    by_step, program, shows = {}, AloneByCalls(reader.start), []
+    for record in reader.records:
+        by_step.setdefault(record.step, {})[record.tag] = record
+    settled = reader.records[-1].step if reader.records else 0
+    settled = settled if reader.end is None else reader.end
+    while len(shows) < (settled if most is None else min(settled, most)):
+        try:
+            shows.append(program.go_on(len(shows), by_step.get(len(shows), {})))
+        except Stuck:
+            return shows, len(shows), bad
+    is_whole = reader.end is not None and len(shows) == reader.end
+    return shows, reader.end if is_whole and not program.is_settled() else None, bad

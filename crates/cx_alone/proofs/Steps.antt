@@ -86,20 +86,26 @@ written_over es fs map = same_map (with_bytes es (with_bytes fs map)) (with_byte
     (λ a. sym (ap (λ x. option_or x (map a)) (byte_found-append es fs a)
     ∙ or_or (byte_found es a) (byte_found fs a) (map a)))
 
--- What it left once its items were handed is what is known behind it.
-pub leaves : (w handed now : Known) (i : Items ℕ) (o : Obs) → step_alone user w i ≡ Some o → handed ≡ with_items w i
-    → now ≡ left_behind handed o → now ≡ after user w o
-leaves w handed now i o went is left =
-    let goes : GoesAlone user w i o = step_alone-goes user w i o went in
-    let shows : Shows (with_bytes i.bytes w.map) (seen_by o) = Shows-sorted (with_bytes i.bytes w.map) (sights o)
-    (step_of-took (changed w.words i.words) (with_bytes i.bytes w.map) i.given o goes.goes).shows in
-    let stands : with_bytes (seen_by o) w.map ≡ with_bytes i.bytes w.map
-    = same_map (with_bytes (seen_by o) w.map) (with_bytes i.bytes w.map)
-    (seen_stands i.bytes w.map (seen_by o) shows goes.there) in
+-- What a step left once these words and bytes were handed, all of which it sees, is what is known behind it.
+pub left_as_after : (w handed now : Known) (words : List (Option ℕ)) (bytes : List Byte) (given : Option ℕ) (o : Obs)
+    → step_of (changed w.words words) (with_bytes bytes w.map) given ≡ Some o → all_there (seen_by o) bytes ≡ true
+    → handed ≡ record { words = changed w.words words; map = with_bytes bytes w.map } → now ≡ left_behind handed o
+    → now ≡ after user w o
+left_as_after w handed now words bytes given o goes there is left =
+    let shows : Shows (with_bytes bytes w.map) (seen_by o) = Shows-sorted (with_bytes bytes w.map) (sights o)
+    (step_of-took (changed w.words words) (with_bytes bytes w.map) given o goes).shows in
+    let stands : with_bytes (seen_by o) w.map ≡ with_bytes bytes w.map
+    = same_map (with_bytes (seen_by o) w.map) (with_bytes bytes w.map) (seen_stands bytes w.map (seen_by o) shows there) in
     left ∙ (ap (λ (k : Known). left_behind k o) is
     ∙ (ap (λ (m : Map). record { words = next_words o; map = with_bytes (bytes_shown o.write) m }) (sym stands)
     ∙ ap (λ (m : Map). record { words = next_words o; map = m })
     (written_over (bytes_shown o.write) (seen_by o) w.map)))
+
+pub leaves : (w handed now : Known) (i : Items ℕ) (o : Obs) → step_alone user w i ≡ Some o → handed ≡ with_items w i
+    → now ≡ left_behind handed o → now ≡ after user w o
+leaves w handed now i o went is left =
+    let goes : GoesAlone user w i o = step_alone-goes user w i o went in
+    left_as_after w handed now i.words i.bytes i.given o goes.goes goes.there is left
 
 -- ---- without items
 

@@ -10,7 +10,7 @@ use cx_slicefmt::SliceFault;
 
 /// Why a step could not be taken.
 #[derive(Clone, Copy, Debug, PartialEq, Eq)]
-pub(crate) enum Stop {
+pub enum Stop {
     /// An item stands already or isn't seen, or the program can't take the step.
     Broken,
     /// Memory was refused.
@@ -26,7 +26,7 @@ impl From<NoMemory> for Stop {
 }
 
 /// What the fault of a reader becomes.
-pub(crate) fn replay_fault(fault: SliceFault) -> ReplayFault
+pub fn replay_fault(fault: SliceFault) -> ReplayFault
     ensures { result ≡ replay_fault_of fault }
 {
     match fault {

@@ -24,8 +24,8 @@ fn is_change(stands: u32, item: Option<u32>) -> bool
     }
 }
 
-// Whether no new word is the one that stands.
-fn all_change(stands: &[u32; 32], items: &[Option<u32>; 32]) -> bool
+/// Whether no new word is the one that stands.
+pub fn all_change(stands: &[u32; 32], items: &[Option<u32>; 32]) -> bool
     ensures { result ≡ all_change stands.now items.now }
 {
     let mut at = 0;
@@ -38,8 +38,8 @@ fn all_change(stands: &[u32; 32], items: &[Option<u32>; 32]) -> bool
     true
 }
 
-// The words, with the new ones where there are some.
-fn changed(stands: &[u32; 32], items: &[Option<u32>; 32]) -> [u32; 32]
+/// The words, with the new ones where there are some.
+pub fn changed(stands: &[u32; 32], items: &[Option<u32>; 32]) -> [u32; 32]
     ensures { result ≡ changed stands.now items.now }
 {
     let mut words = [0; 32];
@@ -51,8 +51,8 @@ fn changed(stands: &[u32; 32], items: &[Option<u32>; 32]) -> [u32; 32]
     words
 }
 
-// Whether none of the bytes stands.
-fn none_stands(shadow: &Shadow, bytes: &[(u32, u8)]) -> bool
+/// Whether none of the bytes stands.
+pub fn none_stands(shadow: &Shadow, bytes: &[(u32, u8)]) -> bool
     ensures { result ≡ none_stands (byte_of shadow.now) bytes.now }
 {
     for byte in bytes {
@@ -63,8 +63,8 @@ fn none_stands(shadow: &Shadow, bytes: &[(u32, u8)]) -> bool
     true
 }
 
-// Whether one of the bytes is at an address.
-fn is_there(bytes: &[(u32, u8)], va: u32) -> bool
+/// Whether one of the bytes is at an address.
+pub fn is_there(bytes: &[(u32, u8)], va: u32) -> bool
     ensures { result ≡ is_some (byte_found bytes.now va) }
 {
     for byte in bytes {
@@ -76,7 +76,7 @@ fn is_there(bytes: &[(u32, u8)], va: u32) -> bool
 }
 
 /// Whether each of the items is at the address of one of the bytes.
-pub(crate) fn all_there(bytes: &[(u32, u8)], items: &[(u32, u8)]) -> bool
+pub fn all_there(bytes: &[(u32, u8)], items: &[(u32, u8)]) -> bool
     ensures { result ≡ all_there bytes.now items.now }
 {
     for item in items {

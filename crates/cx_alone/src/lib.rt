@@ -12,4 +12,7 @@ mod laws;
 mod step;
 
 pub use alone::Alone;
+pub use fault::{Stop, replay_fault};
+pub use handing::{all_change, all_there, changed, is_there, none_stands};
 pub use laws::{an_input_may_be_all_along, slices_are_judged_by_their_steps};
+pub use step::sees;

@@ -15,8 +15,8 @@ use cx_observe::Obs;
 use cx_program::{Standing, bytes_seen, step};
 use cx_slicefmt::GroupItems;
 
-// Whether a step sees each of these bytes.
-fn sees(obs: &Obs, bytes: &[(u32, u8)]) -> bool
+/// Whether a step sees each of these bytes.
+pub fn sees(obs: &Obs, bytes: &[(u32, u8)]) -> bool
     ensures { result ≡ all_there (seen_by obs.now) bytes.now }
 {
     bytes.is_empty() || all_there(bytes_seen(obs).as_slice(), bytes)

@@ -10,8 +10,6 @@ mod bytes;
 mod fault;
 mod laws;
 mod output;
-#[cfg(test)]
-mod tests;
 mod varint;
 
 pub use bytes::Bytes;

@@ -32,6 +32,3 @@ pub use lines::Lines;
 pub use register::Register;
 pub use rules::Rule;
 pub use state::{CsrFile, State};
-
-#[cfg(test)]
-mod tests;

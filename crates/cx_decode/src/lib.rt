@@ -17,10 +17,6 @@ mod laws;
 mod op;
 mod operands;
 mod rows;
-#[cfg(test)]
-mod slow;
-#[cfg(test)]
-mod tests;
 
 pub use decoder::decode;
 pub use encoder::encode;

@@ -13,10 +13,6 @@ mod execute;
 mod got;
 mod load;
 mod needs;
-#[cfg(test)]
-mod results;
-#[cfg(test)]
-mod tests;
 mod user;
 mod values;
 

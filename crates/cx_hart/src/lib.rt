@@ -27,8 +27,6 @@ mod steps;
 mod system;
 mod tell;
 mod tells;
-#[cfg(test)]
-mod tests;
 mod touch;
 mod turn;
 mod view;

@@ -14,8 +14,6 @@ mod plan;
 mod script_world;
 mod seed_world;
 mod standard;
-#[cfg(test)]
-mod tests;
 
 pub use clock_world::ClockWorld;
 pub use memory_sink::MemSink;

@@ -14,8 +14,6 @@ mod ram_bytes;
 mod reading;
 mod reset;
 mod spelling;
-#[cfg(test)]
-mod tests;
 mod turn;
 
 pub use cx_hart::NoMemory;

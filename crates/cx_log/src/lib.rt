@@ -12,8 +12,6 @@ mod order;
 mod reader;
 mod reading;
 mod records;
-#[cfg(test)]
-mod tests;
 mod text;
 mod transfer;
 mod writer;

@@ -10,7 +10,5 @@ mod frame;
 mod frames;
 mod pool;
 mod table;
-#[cfg(test)]
-mod tests;
 
 pub use pool::{NoMemory, Pool, Snap};

@@ -15,8 +15,6 @@ mod obs;
 mod operand_text;
 mod operands;
 mod step;
-#[cfg(test)]
-mod tests;
 mod text;
 
 pub use ins::ins_text;

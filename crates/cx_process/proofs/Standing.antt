@@ -58,9 +58,15 @@ stands_already map es shows a = by_found (byte_found es a) refl
     by_found None is = refl
     by_found (Some b) is = Shows-at map es a b shows is
 
-pub map_stays : (w : Known) (o : Obs) → IsKnown w o → w.map ≡ with_bytes (seen_by o) w.map
+map_stays : (w : Known) (o : Obs) → IsKnown w o → w.map ≡ with_bytes (seen_by o) w.map
 map_stays w o known = same_map w.map (with_bytes (seen_by o) w.map)
     (stands_already w.map (seen_by o) (Shows-sorted w.map (sights o) known.bytes))
+
+-- the words and the map stay what they are
+pub all_stays : (w : Known) (o : Obs) → IsKnown w o
+    → w ≡ record { words = program_words o.pc o.x; map = with_bytes (seen_by o) w.map }
+all_stays w o known = ap (λ (ws : List ℕ). record { words = ws; map = w.map }) known.words
+    ∙ ap (λ (m : Map). record { words = program_words o.pc o.x; map = m }) (map_stays w o known)
 
 pub no_text : (least count : ℕ) (w : Known) (o : Obs) → are_none (items_at user w o) ≡ true
     → [] ≡ step_text least count w o
@@ -98,11 +104,11 @@ written_over es fs map = same_map (with_bytes es (with_bytes fs map)) (with_byte
     (λ a. sym (ap (λ x. option_or x (map a)) (found_append es fs a)
     ∙ or_or (byte_found es a) (byte_found fs a) (map a)))
 
-pub goes_behind : (w : Known) (o : Obs) (seen behind : Known)
-    → seen ≡ record { words = w.words; map = with_bytes (seen_by o) w.map }
+pub goes_behind : (w : Known) (o : Obs) (words : List ℕ) (seen behind : Known)
+    → seen ≡ record { words = words; map = with_bytes (seen_by o) w.map }
     → behind ≡ record { words = next_words o; map = with_bytes (bytes_shown o.write) seen.map }
     → behind ≡ after user w o
-goes_behind w o seen behind saw left = left
+goes_behind w o words seen behind saw left = left
     ∙ (ap (λ (k : Known). record { words = next_words o; map = with_bytes (bytes_shown o.write) k.map }) saw
     ∙ ap (λ (m : Map). record { words = next_words o; map = m }) (written_over (bytes_shown o.write) (seen_by o) w.map))
 
@@ -164,12 +170,12 @@ same_for_some w v n least same some known is =
 -- A step from its room on: it sees, and leaves what it writes.
 pub slices_step : (o : Obs) (w held seen behind : Known) (n least now : ℕ) → held ≡ w
     → now ≡ least_behind least (groups_from n (items_at user held o ∷ []))
-    → seen ≡ record { words = held.words; map = with_bytes (seen_by o) held.map }
+    → seen ≡ record { words = program_words o.pc o.x; map = with_bytes (seen_by o) held.map }
     → behind ≡ record { words = next_words o; map = with_bytes (bytes_shown o.write) seen.map }
     → (os : List Obs) → IsSlicing os w n least → IsSlicing (os ++ o ∷ []) behind (n + 1) now
 slices_step o w held seen behind n least now known last saw left os was =
     slices_on os o held behind n (n + 1) least now (subst (λ (k : Known). IsSlicing os k n least) (sym known) was)
-    (goes_behind held o seen behind saw left) refl last
+    (goes_behind held o (program_words o.pc o.x) seen behind saw left) refl last
 
 -- ---- the end
 

@@ -1,14 +1,15 @@
 //! The slicer.
 
 ghost use Rattle.std.specs.Prelude.{◌≡◌, ◌+◌, ◌<◌, ◌≤◌, ◌^◌, ◌⊎◌, ◌++◌, ℕ, List, [], ◌∷◌, length, true};
-ghost use Rattle.std.specs.Prelude.{IfOk, IsTrue, OnErr, OnOk};
+ghost use Rattle.std.specs.Prelude.{IfErr, IfOk, IsTrue, OnErr, OnOk};
 ghost use Rattle.cx_codec.specs.Puts.{Finishes, Puts, Starts, onto};
 ghost use Rattle.cx_observe.specs.Possible.{Possible};
 ghost use Rattle.cx_observe.specs.Seeing.{seen_by};
 ghost use Rattle.cx_observe.specs.User.{user};
 ghost use Rattle.cx_observe.specs.declared.obs.Obs.{Obs};
 ghost use Rattle.cx_process.specs.Slicing.{IsForSome, added_text, step_text};
-ghost use Rattle.cx_program.specs.Knowing.{HasRoom, IsByStep, known_by};
+ghost use Rattle.cx_observe.specs.Effects.{program_words};
+ghost use Rattle.cx_program.specs.Knowing.{HasRoom, IsByStep, IsKnown, known_by};
 ghost use Rattle.cx_shadow.specs.Cells.{byte_of, is_held};
 ghost use Rattle.cx_slicefmt.specs.Text.{least_behind, slice_end_text, slice_magic};
 ghost use Rattle.cx_slices.specs.Bytes.{with_bytes};
@@ -17,6 +18,7 @@ ghost use Rattle.cx_slices.specs.Items.{items_at};
 
 use crate::items::{are_none, items};
 use cx_codec::OutFault;
+use cx_decode::Decoder;
 use cx_io::Sink;
 use cx_observe::Obs;
 use cx_program::Standing;
@@ -32,6 +34,7 @@ pub struct Slicer {
     standing: Standing,
     count: u64,
     groups: GroupWriter,
+    decoder: Decoder,
     ghost slicing: { IsForSome (known_by standing) count groups.least },
     ghost most: { count ≤ 2 ^ 48 },
 }
@@ -62,12 +65,15 @@ fn put_items<T: Sink>(
     groups.group(count, &items, sink)
 }
 
-// Puts the group of a step, where it has items, and learns the bytes that the step saw.
+// Puts the group of a step, where it has items, and learns its words and the bytes that it saw. Where all that it is
+// handed stands already, there are none.
+#[inline]
 fn learn<T: Sink>(
     groups: &mut GroupWriter,
     standing: &mut Standing,
     count: u64,
     obs: &Obs,
+    known: bool,
     sink: &mut T,
 ) -> Result<(), OutFault>
     requires live { IsTrue groups.old.output.live }
@@ -75,13 +81,14 @@ fn learn<T: Sink>(
     requires order { groups.old.least ≤ count }
     requires most { count < 2 ^ 48 }
     requires room { HasRoom standing.old.shadow obs.now }
+    requires known { known ≡ true → IsKnown (known_by standing.old) obs.now }
     ensures puts { Puts OutFault.WriteFault (step_text groups.old.least count (known_by standing.old) obs.now)
         (onto groups.old.output (T.held sink.old) (T.faults sink.old))
         (onto groups.new.output (T.held sink.new) (T.faults sink.new)) result }
     ensures least { OnOk result (groups.new.least
         ≡ least_behind groups.old.least (groups_from count (items_at user (known_by standing.old) obs.now ∷ []))) }
     ensures known { OnOk result (known_by standing.new ≡ record {
-      words = standing.old.words;
+      words = program_words obs.now.pc obs.now.x;
       map = with_bytes (seen_by obs.now) (byte_of standing.old.shadow);
     }) }
     ensures room { OnOk result (HasRoom standing.new.shadow obs.now) }
@@ -89,12 +96,22 @@ fn learn<T: Sink>(
     ensures stays { OnErr result (known_by standing.new ≡ known_by standing.old) }
     ensures holds { (a : ℕ) → is_held standing.new.shadow a ≡ is_held standing.old.shadow a }
 {
-    if standing.has(obs) {
+    if known {
         return Ok(());
     }
     put_items(groups, standing, count, obs, sink)?;
     standing.see(obs);
     Ok(())
+}
+
+// A decoder that came across no word yet.
+fn new_decoder(alloc: Global) -> Result<Decoder, OutFault>
+    ensures { IfErr result (λ e. e ≡ OutFault.NoMemory) }
+{
+    match Decoder::new(alloc) {
+        Ok(decoder) => Ok(decoder),
+        Err(_) => Err(OutFault::NoMemory),
+    }
 }
 
 impl Slicer {
@@ -106,11 +123,13 @@ impl Slicer {
             (T.held sink.old) (T.held sink.new) (T.faults sink.old) (T.faults sink.new) result }
         ensures stands { IfOk result (HasTaken []) }
     {
+        let decoder = new_decoder(alloc)?;
         let groups = GroupWriter::start(alloc, sink)?;
         Ok(Slicer {
             standing: Standing::new(alloc),
             count: 0,
             groups,
+            decoder,
         })
     }
 
@@ -146,9 +165,17 @@ impl Slicer {
         ensures pages { (a : ℕ) → is_held self.new.standing.shadow a ≡ true
             → (is_held self.old.standing.shadow a ≡ true) ⊎ IsByStep a obs.now }
     {
-        self.standing.hold(obs)?;
-        learn(&mut self.groups, &mut self.standing, self.count, obs, sink)?;
-        self.standing.leave(obs);
+        let known = self.standing.has(obs);
+        self.standing.hold_for(obs, known)?;
+        learn(
+            &mut self.groups,
+            &mut self.standing,
+            self.count,
+            obs,
+            known,
+            sink,
+        )?;
+        self.standing.go_on(obs, &mut self.decoder);
         self.count += 1;
         Ok(())
     }

@@ -4,3 +4,5 @@ pub mod Rising
 pub mod Shown
 pub mod Pages
 pub mod Fetched
+pub mod Rows
+pub mod Held

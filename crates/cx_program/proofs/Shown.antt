@@ -4,8 +4,10 @@ use Rattle.std.proofs.Common.{w32}
 use Rattle.std.specs.Int.{to_le_bytes}
 use Rattle.std.specs.Prelude.{slice_index_or}
 use Rattle.std.proofs.lemmas.List.{length-take-le, take_all, take_more}
+use Rattle.std.proofs.lemmas.Bool.{and_parts}
 use Rattle.cx_exec.specs.Arithmetic.{wrapped}
 use Rattle.cx_ram.specs.LittleEndian.{low_bytes}
+use Rattle.cx_shadow.specs.Cells.{are_at}
 use Rattle.cx_slices.specs.Bytes.{Byte, Map, Shows, is_byte}
 use Rattle.cx_slices.proofs.Bytes.{is_byte-true}
 use Rattle.cx_observe.proofs.Sights.{Shows-append}
@@ -70,3 +72,20 @@ pub all_shown : (map : Map) (o : Obs) (fetched : List ℕ) → fetched ≡ to_le
 unfolding sights
 all_shown map o fetched is fetch read = Shows-append map (bytes_on o.pc (low_bytes 4 o.word)) (bytes_shown o.read)
     (subst (λ bs. Shows map (bytes_on o.pc bs)) (is ∙ low_four o.word) fetch) read
+
+-- ---- on one page
+
+-- bytes one behind another that end before the addresses do
+pub shown_at : (map : Map) (va : ℕ) (bs : List ℕ) → va + length bs ≤ 2 ^ 32 → are_at map va bs ≡ true
+    → Shows map (bytes_on va bs)
+shown_at map va [] within there = tt
+shown_at map va (b ∷ bs) within there =
+    let parts = and_parts (is_byte (map va) b) (are_at map (va + 1) bs) there in
+    let same : va ≡ wrapped va = omega (arith, within) in (
+      ap map (sym same) ∙ is_byte-true (map va) b parts.0,
+      shown_at map (va + 1) bs (omega (arith, within)) parts.1,
+    )
+
+pub shown_on_page : (map : Map) (va : ℕ) (bs : List ℕ) → va < 2 ^ 32 → va % 4096 + length bs ≤ 4096
+    → are_at map va bs ≡ true → Shows map (bytes_on va bs)
+shown_on_page map va bs fits within there = shown_at map va bs (omega (arith, fits, within)) there

@@ -25,7 +25,7 @@ fn number_of(bytes: &[u8; 4], len: u8) -> u32
 
 // The number that the bytes read are.
 #[inline]
-fn number_read(read: &Option<Seen>) -> u32
+pub(crate) fn number_read(read: &Option<Seen>) -> u32
     ensures { result ≡ number_read read.now }
 {
     match read {

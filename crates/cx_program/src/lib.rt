@@ -14,4 +14,4 @@ mod words;
 pub use bytes::{Bytes, bytes_seen, bytes_written};
 pub use standing::{Standing, has_byte};
 pub use stepping::step;
-pub use words::{next_words, words_told};
+pub use words::words_told;

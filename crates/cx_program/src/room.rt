@@ -22,7 +22,7 @@ fn last_of(va: u32, len: u8) -> u32
 
 // Makes room for the bytes of an access.
 #[inline]
-fn hold_access(shadow: &mut Shadow, access: &Option<Seen>) -> Result<(), NoMemory>
+pub(crate) fn hold_access(shadow: &mut Shadow, access: &Option<Seen>) -> Result<(), NoMemory>
     ensures held { IfOk result (λ _. AreHeld shadow.new (bytes_shown access.now)) }
     ensures bytes { (a : ℕ) → byte_of shadow.new a ≡ byte_of shadow.old a }
     ensures keeps { (a : ℕ) → is_held shadow.old a ≡ true → is_held shadow.new a ≡ true }

@@ -8,8 +8,6 @@
 mod laws;
 mod little_endian;
 mod ram;
-#[cfg(test)]
-mod tests;
 
 pub use cx_pages::{NoMemory, Snap};
 pub use laws::{

@@ -1,18 +1,16 @@
 -- What a call answers, by how the next step was settled and taken.
-use Rattle.std.proofs.Common.{◌≡◌, ◌⊎◌, ℕ, ◌≤◌, Bool, true, false, List, [], Option, None, Some, Result, IfOk}
-use Rattle.std.specs.Bool.{OnTrue}
+use Rattle.std.proofs.Common.{◌≡◌, ◌⊎◌, ℕ, ◌≤◌, Bool, true, false, List, [], Option, None, Some, Result}
 use Rattle.std.proofs.Common.{Ok, Err, inl, inr, refl, ap, sym, ◌∙◌, arith}
 use Rattle.std.specs.Option.{option_map}
 use Rattle.cx_hart.specs.HartStep.{hart_step}
 use Rattle.cx_hart.specs.Whole.{Whole, machine_of}
-use Rattle.cx_hart.specs.WellFormed.{IsWellFormed}
 use Rattle.cx_hart.specs.declared.record.StepRec.{StepRec}
 use Rattle.cx_log.specs.Reading.{Opened}
 use Rattle.cx_log.specs.Scan.{Scan}
 use Rattle.cx_machine.specs.Due.{Due}
 use Rattle.cx_run.specs.Due.{due_at}
 use Rattle.cx_run.specs.FirstBad.{Format as bad_format, bad_behind}
-use Rattle.cx_replay.specs.Gathering.{FailsOn, IsFormed, Stops}
+use Rattle.cx_replay.specs.Gathering.{FailsOn, Stops}
 use Rattle.cx_replay.specs.Records.{RisesFrom}
 use Rattle.cx_replay.specs.Replaying.{Answers, Arrives, GaveAll, IsGoodUpTo, IsRead, Progress, Settled, Stands, Starts}
 use Rattle.cx_replay.specs.Replaying.{begun_at_base, told_in}
@@ -128,15 +126,3 @@ pub told_arrives : (told : StepRec) (r : Result Bool ReplayFault) (o : Opened) (
 told_arrives told (Ok true) o whole given m p bytes Has due end may cut arrives = rw arrives.1.0 arrives.1.1
 told_arrives told (Ok false) o whole given m p bytes Has due end may cut arrives = arrives
 told_arrives told (Err e) o whole given m p bytes Has due end may cut arrives = arrives
-
-pub told_formed : (told : StepRec) (r : Result Bool ReplayFault) → IsFormed (λ rec. told ≡ rec) r
-    → IfOk r (λ gave. OnTrue gave (IsWellFormed told))
-told_formed told (Ok true) formed = rw formed.1.0 formed.1.1
-told_formed told (Ok false) formed = tt
-told_formed told (Err e) formed = tt
-
-pub told_walked : (told : StepRec) (r : Result Bool ReplayFault) → IsFormed (λ rec. told ≡ rec) r
-    → IfOk r (λ gave. OnTrue gave (told.walked ≤ 6))
-told_walked told (Ok true) formed = rw formed.1.0 formed.1.1.walked
-told_walked told (Ok false) formed = tt
-told_walked told (Err e) formed = tt

@@ -7,6 +7,7 @@ pub mod Giving
 pub mod Settling
 pub mod Steps
 pub mod Tellings
+pub mod Taking
 pub mod Answering
 pub mod Marks
 pub mod PassedMark

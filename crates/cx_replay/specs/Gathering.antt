@@ -3,7 +3,6 @@ use Rattle.std.specs.Prelude.{◌≡◌, ◌⊎◌, ℕ, ◌<◌, ◌≤◌, Boo
 use Rattle.std.specs.Prelude.{Err}
 use Rattle.cx_hart.specs.declared.answer.Went.{Went}
 use Rattle.cx_hart.specs.declared.answer.Went.TheVariants as went
-use Rattle.cx_hart.specs.WellFormed.{IsWellFormed}
 use Rattle.cx_hart.specs.declared.record.StepRec.{StepRec}
 use Rattle.cx_log.specs.Scan.{Scan, bad_field}
 use Rattle.cx_machine.specs.Due.{Due, IsDue}
@@ -11,6 +10,7 @@ use Rattle.cx_machine.specs.Machine.{MachineState}
 use Rattle.cx_machine.specs.Step.{Stepped}
 use Rattle.cx_replay.specs.Records.{Seen}
 use Rattle.cx_replay.specs.Replaying.{Gathers, IsRead, IsSound, Progress, Settled}
+use Rattle.cx_replay.specs.Taken.{IsTaken}
 use Rattle.cx_replay.specs.declared.fault.ReplayFault.{ReplayFault}
 use Rattle.cx_replay.specs.declared.fault.ReplayFault.TheVariants.{Format, Broken, ReadFault, NoMemory}
 
@@ -100,8 +100,8 @@ abbrev pub TakesStep : {E : Type 0} → Option (Stepped StepRec) → (Known : St
 TakesStep outcome Known machine (Ok carried) = IsCarriedOut outcome Known machine carried
 TakesStep outcome Known machine (Err e) = Unit {0}
 
--- a record of which this is known is well formed
-abbrev pub IsFormed : (Known : StepRec → Type 0) → Result Bool ReplayFault → Type 0
-IsFormed Known (Ok true) = (rec : StepRec) × (Known rec × IsWellFormed rec)
-IsFormed Known (Ok false) = Unit {0}
-IsFormed Known (Err e) = Unit {0}
+-- a record of which this is known is that of a step that was taken
+abbrev pub TellsTaken : (Known : StepRec → Type 0) → Result Bool ReplayFault → Type 0
+TellsTaken Known (Ok true) = (rec : StepRec) × (Known rec × IsTaken rec)
+TellsTaken Known (Ok false) = Unit {0}
+TellsTaken Known (Err e) = Unit {0}

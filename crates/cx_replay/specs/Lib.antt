@@ -5,4 +5,5 @@ pub mod Events
 pub mod KeptRecords
 pub mod Handing
 pub mod Replaying
+pub mod Taken
 pub mod Gathering

@@ -3,12 +3,14 @@
 ghost use Rattle.std.specs.Bool.{OnFalse};
 ghost use Rattle.std.specs.Prelude.{◌≡◌, ◌≤◌, ℕ, List, length, IfOk, IsSome, OnOk};
 ghost use Rattle.cx_codec.specs.Reads.{Begins};
+ghost use Rattle.cx_hart.specs.Whole.{machine_of};
 ghost use Rattle.cx_hart.specs.declared.record.StepRec.{StepRec};
 ghost use Rattle.cx_io.specs.Cause.{HasCause};
 ghost use Rattle.cx_log.specs.Reading.{Opened};
 ghost use Rattle.cx_log.specs.Scan.{Scan};
+ghost use Rattle.cx_machine.specs.Machine.{IsMachine};
 ghost use Rattle.cx_map.specs.Map.{size_of_pages};
-ghost use Rattle.cx_replay.specs.Gathering.{IsFormed};
+ghost use Rattle.cx_replay.specs.Gathering.{TellsTaken};
 ghost use Rattle.cx_replay.specs.Records.{GaveMore, MayBeWhole};
 ghost use Rattle.cx_replay.specs.Replaying.{Arrives, IsSound, Stands, StepsOn};
 
@@ -21,6 +23,16 @@ use crate::step::take_step;
 use crate::told::Told;
 use cx_hart::Machine;
 use cx_io::Source;
+
+// Tells that the machine keeps its rules, for as many pages as its RAM has.
+#[inline]
+fn keeps_rules(machine: &Machine)
+    ensures { (pages : ℕ) → length machine.now.memory ≡ size_of_pages pages
+        → IsMachine pages (machine_of machine.now) }
+{
+    let _ = machine.state();
+    let _ = machine.ram().pages();
+}
 
 /// Settles the next step and takes it, and tells it; false where the recording was read to its end.
 pub(crate) fn advance<R: Records, S: Source, W: Told>(
@@ -45,7 +57,7 @@ pub(crate) fn advance<R: Records, S: Source, W: Told>(
     ensures sound { OnOk result (IsSound progress.new (R.seen records.new)) }
     ensures spent { IsSome (S.left source.old) → IfOk result (λ gave. OnFalse gave (R.leaves (S.left source.new))) }
     ensures at { StepsOn progress.old.at progress.new.at result }
-    ensures formed { IsFormed (W.knows told.new) result }
+    ensures taken { TellsTaken (W.knows told.new) result }
     ensures size { length machine.new.memory ≡ length machine.old.memory }
     ensures split { machine.new.split ≡ machine.old.split }
     ensures saved { machine.new.saved ≡ machine.old.saved }
@@ -55,6 +67,7 @@ pub(crate) fn advance<R: Records, S: Source, W: Told>(
     if !settle_next(progress, due, records, source)? {
         return Ok(false);
     }
+    keeps_rules(machine);
     if !take_step(machine, due, told)? {
         return Err(ReplayFault::Broken(progress.at));
     }

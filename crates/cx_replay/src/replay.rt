@@ -7,7 +7,6 @@ ghost use Rattle.cx_codec.specs.Place.{end_of};
 ghost use Rattle.cx_codec.specs.Reads.{Begins};
 ghost use Rattle.cx_csr.specs.Keeps.{Keeps};
 ghost use Rattle.cx_hart.specs.Whole.{IsLive, machine_at, machine_of};
-ghost use Rattle.cx_hart.specs.WellFormed.{IsWellFormed};
 ghost use Rattle.cx_hart.specs.declared.record.StepRec.{StepRec};
 ghost use Rattle.cx_io.specs.Cause.{HasCause};
 ghost use Rattle.cx_log.specs.Reading.{Opened};
@@ -23,6 +22,7 @@ ghost use Rattle.cx_replay.specs.KeptRecords.{HasKept, kept_from, scan_of};
 ghost use Rattle.cx_replay.specs.LogRecords.{HasAhead, IsBegun, place_of};
 ghost use Rattle.cx_replay.specs.Records.{GaveMore, MayBeWhole, RisesFrom};
 ghost use Rattle.cx_replay.specs.Replaying.{Answers, Arrives, Stands, Starts, StepsOn, begun_at_base, mark_before, told_in, Unknown};
+ghost use Rattle.cx_replay.specs.Taken.{IsTaken};
 
 use crate::advance::advance;
 use crate::due::DueRecords;
@@ -217,7 +217,7 @@ impl<R: Records> Replay<R> {
     /// ended. `Format` and `Broken` come exactly by the first bad place of the input, once all steps were given that
     /// its records settle before. `ReadFault` comes only where the source's count of faults rose; what the source gave
     /// settles no step that wasn't given. `NoMemory` is free.
-    #[tactic(auto, using(crate::proofs::Answering::told_formed, crate::proofs::Answering::told_walked))]
+    #[tactic(auto, using(crate::proofs::Taking::told_taken, crate::proofs::Taking::told_walked))]
     pub fn next_into<S: Source>(
         &mut self,
         rec: &mut StepRec,
@@ -238,7 +238,7 @@ impl<R: Records> Replay<R> {
         ensures spent { IsSome (S.left source.old)
             → IfOk result (λ gave. OnFalse gave (R.leaves (S.left source.new))) }
         ensures at { StepsOn self.old.progress.at self.new.progress.at result }
-        ensures formed { IfOk result (λ gave. OnTrue gave (IsWellFormed rec.new)) }
+        ensures taken { IfOk result (λ gave. OnTrue gave (IsTaken rec.new)) }
         ensures walked { IfOk result (λ gave. OnTrue gave (rec.new.walked ≤ 6)) }
         ensures split { self.new.machine.split ≡ self.old.machine.split }
         ensures saved { self.new.machine.saved ≡ self.old.machine.saved }

@@ -1,3 +1,4 @@
 pub mod Marked
 pub mod Tables
 pub mod Several
+pub mod Runs

@@ -1,7 +1,8 @@
 //! A page of a shadow.
 
-ghost use Rattle.std.specs.Prelude.{◌≡◌, ◌≢◌, ◌<◌, ℕ, None, Some, IfOk};
-ghost use Rattle.cx_shadow.specs.Cells.{byte_in};
+ghost use Rattle.std.specs.Prelude.{◌≡◌, ◌≢◌, ◌<◌, ◌≤◌, ◌+◌, ℕ, length, None, Some, IfOk};
+ghost use Rattle.cx_shadow.specs.Cells.{are_at, byte_in, bytes_of_page};
+ghost use Rattle.cx_slices.specs.Bytes.{is_byte};
 
 use cx_io::NoMemory;
 use cx_map::PAGE_SIZE;
@@ -43,6 +44,34 @@ impl Page {
         } else {
             None
         }
+    }
+
+    // Whether this byte is at an offset in the page.
+    #[inline(always)]
+    fn is_at(&self, offset: usize, byte: u8) -> bool
+        requires { offset < PAGE_SIZE }
+        ensures { result ≡ is_byte (byte_in offset self.now) byte }
+    {
+        match self.get(offset) {
+            None => false,
+            Some(there) => there == byte,
+        }
+    }
+
+    /// Whether these bytes are there, one behind another from an offset on.
+    #[inline(always)]
+    pub(crate) fn has(&self, offset: usize, bytes: &[u8]) -> bool
+        requires { offset + length bytes.now ≤ PAGE_SIZE }
+        ensures { result ≡ are_at (bytes_of_page self.now) offset bytes.now }
+    {
+        let mut at = offset;
+        for byte in bytes {
+            if !self.is_at(at, *byte) {
+                return false;
+            }
+            at += 1;
+        }
+        true
     }
 
     /// Puts a byte at an offset in the page.

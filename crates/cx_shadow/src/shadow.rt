@@ -1,8 +1,8 @@
 //! A shadow, and the two levels of its table.
 
-ghost use Rattle.std.specs.Prelude.{◌≡◌, ◌≢◌, ◌<◌, ◌≤◌, ◌/◌, ◌+◌, ℕ, length, None, Some, true, IfErr, IfOk};
+ghost use Rattle.std.specs.Prelude.{◌≡◌, ◌≢◌, ◌<◌, ◌≤◌, ◌/◌, ◌%◌, ◌+◌, ℕ, length, None, Some, true, IfErr, IfOk};
 ghost use Rattle.std.specs.Option.{option_copied};
-ghost use Rattle.cx_shadow.specs.Cells.{byte_of, is_held, page_numbered, page_in};
+ghost use Rattle.cx_shadow.specs.Cells.{are_at, byte_of, is_held, page_numbered, page_in};
 
 use crate::page::Page;
 use cx_io::NoMemory;
@@ -83,6 +83,19 @@ impl Shadow {
     {
         let va = va as usize;
         found(&self.regions, va / PAGE_SIZE)?.get(va % PAGE_SIZE)
+    }
+
+    /// Whether these bytes were put, one behind another from an address on, on its page.
+    #[inline(always)]
+    pub fn has(&self, va: u32, bytes: &[u8]) -> bool
+        requires { va % PAGE_SIZE + length bytes.now ≤ PAGE_SIZE }
+        ensures { result ≡ are_at (byte_of self.now) va bytes.now }
+    {
+        let va = va as usize;
+        match found(&self.regions, va / PAGE_SIZE) {
+            None => bytes.is_empty(),
+            Some(page) => page.has(va % PAGE_SIZE, bytes),
+        }
     }
 
     /// Whether there is room for a byte at an address.

@@ -7,18 +7,18 @@ use Rattle.cx_log.specs.Reading.{start_of}
 use Rattle.cx_log.specs.declared.fault.LogFault.{LogFault}
 use Rattle.cx_log.specs.declared.fault.LogFault.TheVariants.{Format as bad_field, ReadFault as read_fault}
 use Rattle.cx_log.specs.declared.fault.LogFault.TheVariants.{NoMemory as no_memory}
-use Rattle.cx_top.specs.Doing.{Does}
-use Rattle.cx_top.specs.Faults.{status_of_log}
-use Rattle.cx_top.specs.Opening.{begun_at, behind_magic_at, kind_at}
-use Rattle.cx_top.specs.Streaming.{settled_by}
-use Rattle.cx_top.specs.Replay.{replaying}
-use Rattle.cx_top.specs.Trace.{line_text, tracing}
-use Rattle.cx_top.specs.declared.open.Magic.TheVariants as kind
-use Rattle.cx_top.specs.declared.status.Status.{Status}
-use Rattle.cx_top.specs.declared.status.Status.TheVariants as status
-use Rattle.cx_top.proofs.Completeness.{always_so}
-use Rattle.cx_top.proofs.Composed.{begun_parts}
-use Rattle.cx_top.proofs.Doings.{no_front, refused_opening}
+use Rattle.cx_commands.specs.Doing.{Does}
+use Rattle.cx_commands.specs.Faults.{status_of_log}
+use Rattle.cx_commands.specs.Opening.{begun_at, behind_magic_at, kind_at}
+use Rattle.cx_commands.specs.Streaming.{settled_by}
+use Rattle.cx_commands.specs.Replay.{replaying}
+use Rattle.cx_commands.specs.Trace.{line_text, tracing}
+use Rattle.cx_commands.specs.declared.magic.Magic.TheVariants as kind
+use Rattle.cx_commands.specs.declared.status.Status.{Status}
+use Rattle.cx_commands.specs.declared.status.Status.TheVariants as status
+use Rattle.cx_commands.proofs.Completeness.{always_so}
+use Rattle.cx_telling.proofs.Composed.{begun_parts}
+use Rattle.cx_commands.proofs.Doings.{no_front, refused_opening}
 
 -- what stands behind the magic of a recording
 pub behind_recording : (bytes : List ℕ) (mid : Place) → kind_at (start_of bytes) ≡ Ok (kind.Recording, mid)

@@ -30,26 +30,26 @@ use Rattle.cx_slices.specs.Groups.{items_by_step}
 use Rattle.cx_slices.specs.Items.{Items, Known, after, start}
 use Rattle.cx_slices.specs.Observed.{Watch}
 use Rattle.cx_slices.specs.Settled.{BadField, BreaksAt, SliceRefusal, SliceScan, settled_run, slice_bad}
-use Rattle.cx_top.specs.Doing.{Does, IsGoodSoFar, Judges}
-use Rattle.cx_top.specs.Faults.{status_of_out, status_of_replay}
-use Rattle.cx_top.specs.Observed.{observation_lines}
-use Rattle.cx_top.specs.Replay.{replaying, slice_lines, slice_refusal, status_of_slice, without_end}
-use Rattle.cx_top.specs.Showing.{observation_lines_on}
+use Rattle.cx_commands.specs.Doing.{Does, IsGoodSoFar, Judges}
+use Rattle.cx_commands.specs.Faults.{status_of_out, status_of_replay}
+use Rattle.cx_commands.specs.Observed.{observation_lines}
+use Rattle.cx_commands.specs.Replay.{replaying, slice_lines, slice_refusal, status_of_slice, without_end}
+use Rattle.cx_tellers.specs.Showing.{observation_lines_on}
 use Rattle.cx_top.specs.SlicePut.{HasPut, PutsOn, StopsPutting}
-use Rattle.cx_top.specs.declared.status.Status.{Status}
-use Rattle.cx_top.specs.declared.status.Status.TheVariants as status
+use Rattle.cx_commands.specs.declared.status.Status.{Status}
+use Rattle.cx_commands.specs.declared.status.Status.TheVariants as status
 use Rattle.cx_codec.specs.Fields.{bytes_at}
 use Rattle.cx_codec.proofs.Composing.{done_same}
 use Rattle.cx_codec.proofs.Once.{once_bytes, part}
 use Rattle.cx_log.specs.Reading.{start_of}
 use Rattle.std.specs.Str.{bytes_eq}
 use Rattle.std.specs.Prelude.{codes}
-use Rattle.cx_top.specs.Opening.{kind_at, magic_by}
-use Rattle.cx_top.specs.Streaming.{IsStreamRefusal}
-use Rattle.cx_top.specs.declared.open.Magic.{Magic}
-use Rattle.cx_top.specs.declared.open.Magic.TheVariants as kind
-use Rattle.cx_top.proofs.ShownTold.{shown_put, shown_refused}
-use Rattle.cx_top.proofs.Streams.{blocks_front, front_of}
+use Rattle.cx_commands.specs.Opening.{kind_at, magic_by}
+use Rattle.cx_commands.specs.Streaming.{IsStreamRefusal}
+use Rattle.cx_commands.specs.declared.magic.Magic.{Magic}
+use Rattle.cx_commands.specs.declared.magic.Magic.TheVariants as kind
+use Rattle.cx_tellers.proofs.ShownTold.{shown_put, shown_refused}
+use Rattle.cx_commands.proofs.Streams.{blocks_front, front_of}
 
 -- ---- the run goes on from the observations that were given
 

@@ -6,11 +6,11 @@ use Rattle.cx_alone.specs.declared.alone.Alone.{Alone}
 use Rattle.cx_codec.specs.Blocks.{HasFront, StandsFor, whole as whole_blocks}
 use Rattle.cx_observe.specs.declared.obs.Obs.{Obs}
 use Rattle.cx_slices.specs.Settled.{SliceScan}
-use Rattle.cx_top.specs.Doing.{IsGoodSoFar}
-use Rattle.cx_top.specs.Observed.{observation_lines}
-use Rattle.cx_top.specs.Replay.{slice_lines, slice_refusal, without_end}
-use Rattle.cx_top.specs.declared.status.Status.{Status}
-use Rattle.cx_top.specs.declared.status.Status.TheVariants as status
+use Rattle.cx_commands.specs.Doing.{IsGoodSoFar}
+use Rattle.cx_commands.specs.Observed.{observation_lines}
+use Rattle.cx_commands.specs.Replay.{slice_lines, slice_refusal, without_end}
+use Rattle.cx_commands.specs.declared.status.Status.{Status}
+use Rattle.cx_commands.specs.declared.status.Status.TheVariants as status
 
 -- The lines of the observations that a replay gave were put.
 pub record HasPut (s : SliceScan ℕ) (end : ℕ) (base : Option (List ℕ)) (a : Alone) (left : Option (List ℕ))

@@ -7,20 +7,19 @@ ghost use Rattle.cx_codec.specs.Reads.{Begins, over, place_in};
 ghost use Rattle.cx_log.specs.Reading.{start_of};
 ghost use Rattle.cx_map.specs.Bytes.{AreBytes};
 ghost use Rattle.cx_replay.specs.Records.{GaveMore, MayBeWhole};
-ghost use Rattle.cx_top.specs.Call.{input_behind};
-ghost use Rattle.cx_top.specs.Doing.{Answers, CausedBy, Consumes, Does, IsUntouched, Judges, Leaves, ended};
-ghost use Rattle.cx_top.specs.Opening.{begun_at, behind_magic_at};
-ghost use Rattle.cx_top.specs.Replay.{IsReplayRefusal, IsReplayStatus, replaying};
-ghost use Rattle.cx_top.specs.Streaming.{IsStreamRefusal};
-ghost use Rattle.cx_top.specs.Trace.{tracing};
+ghost use Rattle.cx_commands.specs.Call.{input_behind};
+ghost use Rattle.cx_commands.specs.Doing.{Answers, CausedBy, Consumes, Does, IsUntouched, Judges, Leaves, ended};
+ghost use Rattle.cx_commands.specs.Opening.{begun_at, behind_magic_at};
+ghost use Rattle.cx_commands.specs.Replay.{IsReplayRefusal, IsReplayStatus, replaying};
+ghost use Rattle.cx_commands.specs.Streaming.{IsStreamRefusal};
+ghost use Rattle.cx_commands.specs.Trace.{tracing};
 
-use crate::lines::Lines;
-use crate::open::{Magic, open_behind, read_magic};
 use crate::replay_process::replay_process;
-use crate::status::Status;
-use crate::stream::run_opened;
 use cx_codec::Bytes;
+use cx_commands::{Magic, Status};
 use cx_io::{Sink, Source};
+use cx_tellers::Lines;
+use cx_telling::{open_behind, read_magic, run_opened};
 use std::alloc::Global;
 
 // Reads a recording behind its magic, and puts the lines of its steps.

@@ -9,21 +9,20 @@ ghost use Rattle.cx_machine.specs.Machine.{IsMemory};
 ghost use Rattle.cx_map.specs.Bytes.{AreBytes};
 ghost use Rattle.cx_replay.specs.LogRecords.{IsBegun};
 ghost use Rattle.cx_replay.specs.Records.{MayBeWhole};
-ghost use Rattle.cx_top.specs.Call.{input_behind};
-ghost use Rattle.cx_top.specs.Doing.{Answers, CausedBy, Consumes, IsUntouched, Judges, Leaves};
-ghost use Rattle.cx_top.specs.Opening.{begun_at};
-ghost use Rattle.cx_top.specs.Roots.{IsCountRefusal, ReadsRoots, listing_roots, without_sink};
-ghost use Rattle.cx_top.specs.Streaming.{FinishesOn, IsStreamStatus};
-ghost use Rattle.cx_top.specs.Window.{ReadAll};
+ghost use Rattle.cx_commands.specs.Call.{input_behind};
+ghost use Rattle.cx_commands.specs.Doing.{Answers, CausedBy, Consumes, IsUntouched, Judges, Leaves};
+ghost use Rattle.cx_commands.specs.Opening.{begun_at};
+ghost use Rattle.cx_commands.specs.Roots.{IsCountRefusal, ReadsRoots, listing_roots, without_sink};
+ghost use Rattle.cx_commands.specs.Streaming.{FinishesOn, IsStreamStatus};
+ghost use Rattle.cx_commands.specs.Window.{ReadAll};
 
-use crate::counting::Counting;
-use crate::open::{Opening, open};
-use crate::status::Status;
-use crate::telling::tell_all;
 use cx_codec::{Out, OutFault};
+use cx_commands::Status;
 use cx_inspect::Roots;
 use cx_io::{MemSink, Sink, Source};
 use cx_replay::Replay;
+use cx_tellers::Counting;
+use cx_telling::{Opening, open, tell_all};
 use std::alloc::Global;
 
 // Nothing is put while the roots are counted, so no sink fails; one that did would end the call as want of memory does.

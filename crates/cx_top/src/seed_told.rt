@@ -74,7 +74,7 @@ impl World for SeedTold {
     ghost use Rattle.cx_io.specs.Plan.{one_more};
     ghost use Rattle.cx_io.specs.SeedWorld.{seeded_answer};
     ghost use Rattle.cx_io.specs.Turns.{AddsAnswer};
-    ghost use Rattle.cx_top.specs.Record.{told_behind_seed};
+    ghost use Rattle.cx_commands.specs.Record.{told_behind_seed};
 
     ghost answers = { told_behind_seed };
 

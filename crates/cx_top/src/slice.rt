@@ -9,15 +9,15 @@ ghost use Rattle.cx_machine.specs.Machine.{IsMemory};
 ghost use Rattle.cx_map.specs.Bytes.{AreBytes};
 ghost use Rattle.cx_replay.specs.LogRecords.{IsBegun};
 ghost use Rattle.cx_replay.specs.Records.{MayBeWhole};
-ghost use Rattle.cx_top.specs.Call.{input_behind};
-ghost use Rattle.cx_top.specs.Doing.{Consumes};
-ghost use Rattle.cx_top.specs.Opening.{begun_at};
-ghost use Rattle.cx_top.specs.Window.{IsReadRefusal, ReadAll, ReadsSlice};
+ghost use Rattle.cx_commands.specs.Call.{input_behind};
+ghost use Rattle.cx_commands.specs.Doing.{Consumes};
+ghost use Rattle.cx_commands.specs.Opening.{begun_at};
+ghost use Rattle.cx_commands.specs.Window.{IsReadRefusal, ReadAll, ReadsSlice};
 
-use crate::open::{Opening, open};
-use crate::status::Status;
+use cx_commands::Status;
 use cx_io::Source;
 use cx_replay::Replay;
+use cx_telling::{Opening, open};
 use cx_window::{Slice, Span, cut};
 use std::alloc::Global;
 

@@ -7,19 +7,19 @@ ghost use Rattle.cx_log.specs.Reading.{Opened};
 ghost use Rattle.cx_log.specs.Scan.{Scan};
 ghost use Rattle.cx_map.specs.Bytes.{AreBytes};
 ghost use Rattle.cx_replay.specs.Records.{MayBeWhole};
-ghost use Rattle.cx_top.specs.Call.{input_behind};
-ghost use Rattle.cx_top.specs.Doing.{Answers, CausedBy, Consumes, IsUntouched, Judges, Leaves};
-ghost use Rattle.cx_top.specs.Streaming.{FinishesOn};
-ghost use Rattle.cx_top.specs.TraceWindow.{tracing_window, window_lines};
-ghost use Rattle.cx_top.specs.Window.{IsWindowStatus};
+ghost use Rattle.cx_commands.specs.Call.{input_behind};
+ghost use Rattle.cx_commands.specs.Doing.{Answers, CausedBy, Consumes, IsUntouched, Judges, Leaves};
+ghost use Rattle.cx_commands.specs.Streaming.{FinishesOn};
+ghost use Rattle.cx_commands.specs.TraceWindow.{tracing_window, window_lines};
+ghost use Rattle.cx_commands.specs.Window.{IsWindowStatus};
 ghost use Rattle.cx_window.specs.Cut.{CutsOff, IsJudged};
 
-use crate::lines::Lines;
 use crate::slice::read_slice;
-use crate::status::Status;
-use crate::telling::{Teller, tell_all};
 use cx_codec::OutFault;
+use cx_commands::Status;
 use cx_io::{MemSource, Sink, Source};
+use cx_tellers::Lines;
+use cx_telling::{Teller, tell_all};
 use cx_window::{Slice, Span};
 use std::alloc::Global;
 

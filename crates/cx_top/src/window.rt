@@ -4,12 +4,12 @@ ghost use Rattle.std.specs.Prelude.{◌≡◌, List, ℕ, false, IsSome};
 ghost use Rattle.cx_codec.specs.Reads.{Begins};
 ghost use Rattle.cx_map.specs.Bytes.{AreBytes};
 ghost use Rattle.cx_replay.specs.Records.{MayBeWhole};
-ghost use Rattle.cx_top.specs.Call.{input_behind};
-ghost use Rattle.cx_top.specs.Doing.{Answers, CausedBy, Consumes, IsUntouched, Judges, Leaves};
-ghost use Rattle.cx_top.specs.Window.{IsWindowStatus, windowed};
+ghost use Rattle.cx_commands.specs.Call.{input_behind};
+ghost use Rattle.cx_commands.specs.Doing.{Answers, CausedBy, Consumes, IsUntouched, Judges, Leaves};
+ghost use Rattle.cx_commands.specs.Window.{IsWindowStatus, windowed};
 
 use crate::slice::read_slice;
-use crate::status::Status;
+use cx_commands::Status;
 use cx_io::{Sink, Source};
 use cx_window::Span;
 use std::alloc::Global;

@@ -16,6 +16,3 @@ pub use entry::enter;
 pub use exit::{can_mret, can_sret, mret, sret};
 pub use interrupts::pending;
 pub use laws::{pending_is_a_cause, returns_keep, traps_keep};
-
-#[cfg(test)]
-mod tests;

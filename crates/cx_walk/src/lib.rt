@@ -12,8 +12,6 @@ mod kind;
 mod laws;
 mod mode;
 mod quickly;
-#[cfg(test)]
-mod tests;
 mod walk;
 mod words;
 

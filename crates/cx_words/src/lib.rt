@@ -10,8 +10,6 @@ mod command;
 mod number;
 mod queries;
 mod spelling;
-#[cfg(test)]
-mod tests;
 
 pub use command::{Command, read_words};
 pub use spelling::numbers_read_back;

@@ -1,6 +1,7 @@
-use Rattle.std.proofs.Common.{◌≡◌}
+use Rattle.std.proofs.Common.{◌≡◌, ap, sym, ◌∙◌}
 use Rattle.std.proofs.lemmas.Result.{err_from_is_err_and}
-use Rattle.cx_hart.proofs.FormedRecords.{well_formed}
+use Rattle.cx_hart.specs.Whole.{machine_of}
+use Rattle.cx_map.specs.Map.{size_of_pages}
 use Rattle.cx_replay.proofs.Answering.{answers_broken, answers_end, answers_fault, answers_step}
 use Rattle.cx_replay.proofs.advance.advance.Goals as goal
 
@@ -51,7 +52,23 @@ returns-clause-answers g c told input begins end o whole given stands =
       ),
     )
 
-pub returns-clause-formed : goal.returns-clause-formed
-returns-clause-formed g c =
+pub returns-clause-taken : goal.returns-clause-taken
+returns-clause-taken g c =
     let goes = rw c.if-not-branch-2.false at c.in_ok-take_step.ensures.step in
-    (goes.0, (goes.1.1, well_formed _ _ _ (record { machine = _; rec = goes.0 }) goes.1.0))
+    let ready = rw c.if-not-branch.false at c.in_ok-settle_next.ensures.sound in (
+      goes.0,
+      (
+        goes.1.1,
+        record {
+          split = c.args.machine.now.split;
+          pages = (g.R.Records.seen c.settle_next.new.records).pages;
+          machine = machine_of c.args.machine.now;
+          due = c.settle_next.new.due;
+          next = machine_of c.take_step.new.machine;
+          keeps = c.keeps_rules.ensures (g.R.Records.seen c.settle_next.new.records).pages
+              (c.requires.size ∙ ap size_of_pages (sym c.settle_next.ensures.pages));
+          fits = ready.handed;
+          goes = goes.1.0;
+        },
+      ),
+    )

@@ -4,8 +4,8 @@ use Rattle.cx_words.specs.declared.command.Command.TheVariants.{Window, TraceWin
 use Rattle.cx_words.specs.declared.command.Command.TheVariants.{Process, Replay}
 use Rattle.cx_words.specs.declared.command.Command.TheVariants.{Roots, TraceRoot, Upgrade}
 use Rattle.cx_words.specs.Parse.{parse}
-use Rattle.cx_top.proofs.Carrying.{carries_as, carries_unasked}
-use Rattle.cx_top.proofs.Recordings.{carries_steps}
+use Rattle.cx_commands.proofs.Carrying.{carries_as, carries_unasked}
+use Rattle.cx_commands.proofs.Recordings.{carries_steps}
 use Rattle.cx_top.proofs.StepCounts.{count_of}
 use Rattle.cx_top.proofs.call.run.Goals as goal
 

@@ -1,6 +1,6 @@
 use Rattle.std.proofs.lemmas.Result.{err_from_is_err_and}
-use Rattle.cx_top.proofs.Consuming.{consumes_all, consumes_some, gave_of_follows}
-use Rattle.cx_top.proofs.Recordings.{first_refused, image_fault_is_early}
+use Rattle.cx_telling.proofs.Consuming.{consumes_all, consumes_some, gave_of_follows}
+use Rattle.cx_commands.proofs.Recordings.{first_refused, image_fault_is_early}
 use Rattle.cx_top.proofs.record.read_image.Goals as goal
 
 pub returns-in_err-image-clause-image : goal.returns-in_err-image-clause-image

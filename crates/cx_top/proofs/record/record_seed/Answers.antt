@@ -1,4 +1,4 @@
-use Rattle.cx_top.proofs.Recordings.{never_world, seeds, seeded_kind}
+use Rattle.cx_commands.proofs.Recordings.{never_world, seeds, seeded_kind}
 use Rattle.cx_top.proofs.record.record_seed.Goals as goal
 
 pub returns-clause-answer : goal.returns-clause-answer

@@ -3,8 +3,8 @@ use Rattle.std.proofs.lemmas.Result.{err_from_is_err_and}
 use Rattle.cx_codec.proofs.Following.{begins_on, end_stays}
 use Rattle.cx_replay.proofs.Giving.{gave_on}
 use Rattle.cx_replay.specs.Records.{MayBeWhole}
-use Rattle.cx_top.specs.Call.{input_behind}
-use Rattle.cx_top.proofs.Consuming.{gave_of_follows, log_is_early}
+use Rattle.cx_commands.specs.Call.{input_behind}
+use Rattle.cx_telling.proofs.Consuming.{gave_of_follows, log_is_early}
 use Rattle.cx_top.proofs.Replayed.{behind_recording, refuses_magic, refuses_calls, replays_recording}
 use Rattle.cx_top.proofs.replay.read_replay.Goals as goal
 

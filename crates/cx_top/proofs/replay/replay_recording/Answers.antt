@@ -3,11 +3,11 @@ use Rattle.std.proofs.lemmas.Result.{err_from_is_err_and}
 use Rattle.cx_codec.proofs.Following.{begins_on}
 use Rattle.cx_codec.specs.Place.{Buffered}
 use Rattle.cx_codec.specs.Reads.{over, place_in}
-use Rattle.cx_top.specs.Opening.{behind_magic_at}
-use Rattle.cx_top.specs.Streaming.{settled_by}
-use Rattle.cx_top.specs.Trace.{line_text}
-use Rattle.cx_top.proofs.Consuming.{gave_of_follows, log_is_early}
-use Rattle.cx_top.proofs.Doings.{refused_opening}
+use Rattle.cx_commands.specs.Opening.{behind_magic_at}
+use Rattle.cx_commands.specs.Streaming.{settled_by}
+use Rattle.cx_commands.specs.Trace.{line_text}
+use Rattle.cx_telling.proofs.Consuming.{gave_of_follows, log_is_early}
+use Rattle.cx_commands.proofs.Doings.{refused_opening}
 use Rattle.cx_replay.proofs.Giving.{gave_on}
 use Rattle.cx_top.proofs.replay.replay_recording.Goals as goal
 

@@ -1,7 +1,7 @@
 use Rattle.std.proofs.Common.{[], ◌∷◌, ◌++◌, sym, ◌∙◌}
 use Rattle.std.proofs.lemmas.Result.{err_from_is_err_and}
 use Rattle.cx_top.proofs.SlicePut.{all_put, put_fault, put_front, put_refused}
-use Rattle.cx_top.proofs.ShownTold.{shown_put}
+use Rattle.cx_tellers.proofs.ShownTold.{shown_put}
 use Rattle.cx_top.proofs.replay_process.put_next.Goals as goal
 
 pub returns-in_err-obs-clause-puts : goal.returns-in_err-obs-clause-puts

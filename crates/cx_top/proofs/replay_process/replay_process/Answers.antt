@@ -8,11 +8,11 @@ use Rattle.cx_codec.proofs.Putting.{nothing_put}
 use Rattle.cx_replay.proofs.Giving.{gave_on}
 use Rattle.cx_slicefmt.specs.Rules.{process}
 use Rattle.cx_slicefmt.specs.Scan.{scan_groups}
-use Rattle.cx_top.specs.Replay.{slice_lines}
-use Rattle.cx_top.specs.declared.open.Magic.TheVariants as kind
-use Rattle.cx_top.specs.declared.status.Status.TheVariants as status
-use Rattle.cx_top.proofs.Doings.{no_front}
-use Rattle.cx_top.proofs.RootsTold.{finishes_on, fresh_put}
+use Rattle.cx_commands.specs.Replay.{slice_lines}
+use Rattle.cx_commands.specs.declared.magic.Magic.TheVariants as kind
+use Rattle.cx_commands.specs.declared.status.Status.TheVariants as status
+use Rattle.cx_commands.proofs.Doings.{no_front}
+use Rattle.cx_tellers.proofs.RootsTold.{finishes_on, fresh_put}
 use Rattle.cx_top.proofs.SlicePut.{
   all_of_text,
   bytes_of_kind,
@@ -24,7 +24,7 @@ use Rattle.cx_top.proofs.SlicePut.{
   slice_stops,
   slice_unfinished,
 }
-use Rattle.cx_top.proofs.Streamed.{out_is_early, told_is_early}
+use Rattle.cx_telling.proofs.Streamed.{out_is_early, told_is_early}
 use Rattle.cx_top.proofs.replay_process.replay_process.Goals as goal
 
 pub returns-in_err-alone-clause-does : goal.returns-in_err-alone-clause-does

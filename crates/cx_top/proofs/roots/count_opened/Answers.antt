@@ -4,11 +4,11 @@ use Rattle.cx_codec.specs.Reads.{over, place_in}
 use Rattle.cx_codec.proofs.Putting.{nothing_put}
 use Rattle.cx_inspect.specs.Roots.{roots_from}
 use Rattle.cx_log.specs.Reading.{Opened}
-use Rattle.cx_top.specs.Opening.{scan_from}
-use Rattle.cx_top.proofs.Consuming.{consumes_some}
-use Rattle.cx_top.proofs.Judging.{bytes_of_begun}
-use Rattle.cx_top.proofs.Ordered.{ordered_behind}
-use Rattle.cx_top.proofs.RootsTold.{count_cause, count_is_early, count_refused, roots_stop}
+use Rattle.cx_commands.specs.Opening.{scan_from}
+use Rattle.cx_telling.proofs.Consuming.{consumes_some}
+use Rattle.cx_commands.proofs.Judging.{bytes_of_begun}
+use Rattle.cx_telling.proofs.Ordered.{ordered_behind}
+use Rattle.cx_tellers.proofs.RootsTold.{count_cause, count_is_early, count_refused, roots_stop}
 use Rattle.cx_top.proofs.roots.count_opened.Goals as goal
 
 pub returns-in-Ok-clause-reads : goal.returns-in-Ok-clause-reads

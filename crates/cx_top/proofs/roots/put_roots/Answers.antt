@@ -1,7 +1,7 @@
 use Rattle.std.proofs.Common.{[]}
 use Rattle.std.proofs.lemmas.Result.{err_from_is_err_and}
 use Rattle.cx_inspect.specs.Lines.{root_lines}
-use Rattle.cx_top.proofs.RootsTold.{finishes_on, fresh_put}
+use Rattle.cx_tellers.proofs.RootsTold.{finishes_on, fresh_put}
 use Rattle.cx_top.proofs.roots.put_roots.Goals as goal
 
 pub returns-in_err-put_lines-clause-puts : goal.returns-in_err-put_lines-clause-puts

@@ -1,6 +1,6 @@
-use Rattle.cx_top.specs.Call.{input_behind}
-use Rattle.cx_top.proofs.RootsTold.{count_is_status, count_writes_nothing, roots_unread, roots_unwritten}
-use Rattle.cx_top.proofs.RootsTold.{roots_written}
+use Rattle.cx_commands.specs.Call.{input_behind}
+use Rattle.cx_tellers.proofs.RootsTold.{count_is_status, count_writes_nothing, roots_unread, roots_unwritten}
+use Rattle.cx_tellers.proofs.RootsTold.{roots_written}
 use Rattle.cx_top.proofs.roots.roots.Goals as goal
 
 pub returns-in-Err-clause-leaves : goal.returns-in-Err-clause-leaves

@@ -1,9 +1,9 @@
 use Rattle.std.proofs.Common.{sym}
 use Rattle.std.proofs.lemmas.Result.{err_from_is_err_and}
 use Rattle.cx_log.specs.Reading.{Opened}
-use Rattle.cx_top.proofs.Answering.{lacks_window, refused_replay}
-use Rattle.cx_top.proofs.Consuming.{consumes_all, consumes_some, replay_fault_is_early}
-use Rattle.cx_top.proofs.Judging.{bytes_of_begun, is_judged}
+use Rattle.cx_commands.proofs.Answering.{lacks_window, refused_replay}
+use Rattle.cx_telling.proofs.Consuming.{consumes_all, consumes_some, replay_fault_is_early}
+use Rattle.cx_commands.proofs.Judging.{bytes_of_begun, is_judged}
 use Rattle.cx_top.proofs.slice.cut_opened.Goals as goal
 
 pub returns-in_err-window-clause-reads : goal.returns-in_err-window-clause-reads

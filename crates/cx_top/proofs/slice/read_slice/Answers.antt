@@ -4,10 +4,10 @@ use Rattle.cx_codec.proofs.Following.{begins_on}
 use Rattle.cx_codec.specs.Place.{Buffered}
 use Rattle.cx_codec.specs.Reads.{over, place_in}
 use Rattle.cx_log.specs.Reading.{start_of}
-use Rattle.cx_top.specs.Call.{input_behind}
-use Rattle.cx_top.specs.Opening.{begun_at}
-use Rattle.cx_top.proofs.Answering.{refused_window}
-use Rattle.cx_top.proofs.Consuming.{consumes_on, consumes_some, gave_of_follows, log_fault_is_early}
+use Rattle.cx_commands.specs.Call.{input_behind}
+use Rattle.cx_commands.specs.Opening.{begun_at}
+use Rattle.cx_commands.proofs.Answering.{refused_window}
+use Rattle.cx_telling.proofs.Consuming.{consumes_on, consumes_some, gave_of_follows, log_fault_is_early}
 use Rattle.cx_top.proofs.slice.read_slice.Goals as goal
 
 pub returns-in_err-opening-clause-consumes : goal.returns-in_err-opening-clause-consumes

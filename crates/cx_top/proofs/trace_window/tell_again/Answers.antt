@@ -2,9 +2,9 @@ use Rattle.std.proofs.lemmas.Result.{err_from_is_err_and}
 use Rattle.std.proofs.Common.{Some, refl}
 use Rattle.cx_replay.specs.KeptRecords.{scan_of}
 use Rattle.cx_window.specs.Slice.{opened_of}
-use Rattle.cx_top.proofs.Doings.{no_front}
-use Rattle.cx_top.proofs.LinesAgain.{again_all, again_front, again_stops, begins_itself, none_told, slice_is_all}
-use Rattle.cx_top.proofs.LinesAgain.{slice_ordered}
+use Rattle.cx_commands.proofs.Doings.{no_front}
+use Rattle.cx_commands.proofs.LinesAgain.{again_all, again_front, again_stops, begins_itself, none_told, slice_is_all}
+use Rattle.cx_commands.proofs.LinesAgain.{slice_ordered}
 use Rattle.cx_top.proofs.trace_window.tell_again.Goals as goal
 
 pub returns-in_err-lines-clause-tells : goal.returns-in_err-lines-clause-tells

@@ -1,8 +1,8 @@
-use Rattle.cx_top.specs.Call.{input_behind}
-use Rattle.cx_top.specs.Opening.{scan_from}
-use Rattle.cx_top.specs.TraceWindow.{window_lines}
-use Rattle.cx_top.proofs.Answering.{nothing_written, writes_all, writes_out}
-use Rattle.cx_top.proofs.Judging.{is_judged}
+use Rattle.cx_commands.specs.Call.{input_behind}
+use Rattle.cx_commands.specs.Opening.{scan_from}
+use Rattle.cx_commands.specs.TraceWindow.{window_lines}
+use Rattle.cx_commands.proofs.Answering.{nothing_written, writes_all, writes_out}
+use Rattle.cx_commands.proofs.Judging.{is_judged}
 use Rattle.cx_top.proofs.trace_window.trace_window.Goals as goal
 
 pub returns-in-Err-put_lines-clause-answer : goal.returns-in-Err-put_lines-clause-answer

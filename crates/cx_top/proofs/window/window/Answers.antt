@@ -1,6 +1,6 @@
-use Rattle.cx_top.specs.Call.{input_behind}
-use Rattle.cx_top.specs.Window.{window_text}
-use Rattle.cx_top.proofs.Answering.{nothing_written, slice_text, writes_all, writes_out}
+use Rattle.cx_commands.specs.Call.{input_behind}
+use Rattle.cx_commands.specs.Window.{window_text}
+use Rattle.cx_commands.proofs.Answering.{nothing_written, slice_text, writes_all, writes_out}
 use Rattle.cx_top.proofs.window.window.Goals as goal
 
 pub returns-clause-answer : goal.returns-clause-answer

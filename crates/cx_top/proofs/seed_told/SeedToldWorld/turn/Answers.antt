@@ -1,8 +1,8 @@
 use Rattle.std.proofs.Common.{rules, refl}
 use Rattle.cx_io.specs.Plan.{one_more}
 use Rattle.cx_io.proofs.SeededAnswers.{AddsAnswer-told}
-use Rattle.cx_top.specs.Record.{seed_as_answer}
-use Rattle.cx_top.proofs.Seeding.{adds_behind}
+use Rattle.cx_commands.specs.Record.{seed_as_answer}
+use Rattle.cx_commands.proofs.Seeding.{adds_behind}
 use Rattle.cx_top.proofs.seed_told.SeedToldWorld.turn.Goals as goal
 
 pub returns-clause-answer : goal.returns-clause-answer

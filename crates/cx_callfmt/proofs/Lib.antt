@@ -1,0 +1,11 @@
+pub mod Entries
+pub mod Texts
+pub mod Scans
+pub mod HandedOut
+pub mod Spelled
+pub mod Whole
+pub mod Begins
+pub mod Following
+pub mod Nexts
+pub mod Steps
+pub mod Gathers

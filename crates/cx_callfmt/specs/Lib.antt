@@ -1,0 +1,12 @@
+pub mod Rules
+pub mod Text
+pub mod Reading
+pub mod Keeping
+pub mod Writing
+pub mod Handing
+pub mod Scan
+pub mod Beginning
+pub mod Engine
+pub mod ReaderFits
+pub mod Steps
+pub mod Gathering

@@ -1,0 +1,30 @@
+-- What a writer of call slices holds, and records that are kept for it.
+use Rattle.std.specs.Prelude.{◌≡◌, ℕ, List, [], ◌∷◌}
+use Rattle.cx_codec.specs.Blocks.{Waiting}
+use Rattle.cx_placing.specs.Records.{Record}
+use Rattle.cx_callfmt.specs.Rules.{Behind, behind_record}
+use Rattle.cx_callfmt.specs.Text.{records_text}
+
+-- the output, and where the next record may stand
+pub record CallWriting : Type 0 where
+  pub output : Waiting
+  pub behind : Behind
+
+abbrev pub call_output_of : CallWriting → Waiting
+call_output_of w = w.output
+
+-- the text of records, and where the next may stand
+pub record Kept : Type 0 where
+  pub text : List ℕ
+  pub behind : Behind
+
+-- where the next record may stand behind these
+abbrev pub behind_records : Behind → List Record → Behind
+behind_records behind [] = behind
+behind_records behind (r ∷ rs) = behind_records (behind_record r) rs
+
+-- They are the text of records from here on.
+pub record AreKept (behind : Behind) (kept : Kept) : Type 0 where
+  pub records : List Record
+  pub text : kept.text ≡ records_text behind.index records
+  pub next : kept.behind ≡ behind_records behind records

@@ -1,0 +1,5 @@
+//! The slicer of a program by its calls: observations in, the text of their slice out.
+#![tactic(auto)]
+
+mod gatherer;
+mod items;

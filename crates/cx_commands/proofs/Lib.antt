@@ -1,0 +1,17 @@
+pub mod Judging
+pub mod Doings
+pub mod Streams
+pub mod LinesAgain
+pub mod Answering
+pub mod LinesParts
+pub mod Upgraded
+pub mod Completeness
+pub mod Nested
+pub mod Carrying
+pub mod Seeding
+pub mod Recordings
+pub mod Sliceable
+pub mod SliceReplays
+pub mod Isolated
+pub mod WindowsShow
+pub mod CutSlices

@@ -1,0 +1,12 @@
+//! What an input is.
+
+/// What an input is, by the magic that it begins with.
+#[derive(Clone, Copy, Debug, PartialEq, Eq)]
+pub enum Magic {
+    /// A recording.
+    Recording,
+    /// A slice of a process.
+    Process,
+    /// A slice by its calls, which isn't read yet.
+    Calls,
+}

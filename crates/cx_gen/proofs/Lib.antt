@@ -1,0 +1,4 @@
+pub mod Drawn
+pub mod Making
+pub mod Paging
+pub mod ReadBack

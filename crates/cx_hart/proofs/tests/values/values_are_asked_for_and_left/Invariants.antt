@@ -1,4 +1,0 @@
-use Rattle.cx_hart.proofs.tests.values.values_are_asked_for_and_left.Given as goal
-
-abbrev pub ghosts-stays : goal.ghosts-stays
-ghosts-stays g a = record { name = a.blank.name; parts = a.blank.parts }

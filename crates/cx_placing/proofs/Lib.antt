@@ -1,0 +1,11 @@
+pub mod Cells
+pub mod Heads
+pub mod Going
+pub mod Runs
+pub mod Went
+pub mod OnlyStep
+pub mod Only
+pub mod Spelling
+pub mod Streams
+pub mod Gathering
+pub mod Apart

@@ -1,0 +1,9 @@
+pub mod Intervals
+pub mod Taking
+pub mod Hands
+pub mod Held
+pub mod Standing
+pub mod Spacing
+pub mod Playing
+pub mod KeptRuns
+pub mod Openings

@@ -1,0 +1,7 @@
+pub mod Taken
+pub mod LineTold
+pub mod ShownTold
+pub mod Fronts
+pub mod Upgrading
+pub mod RootsTold
+pub mod FedTold

@@ -1,5 +1,0 @@
-use Rattle.cx_top.proofs.LinesParts.{traced_part}
-use Rattle.cx_top.proofs.laws.traced_windows_are_parts.Goals as goal
-
-pub returns : goal.returns
-returns c = traced_part

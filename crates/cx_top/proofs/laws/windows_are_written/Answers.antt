@@ -1,5 +1,0 @@
-use Rattle.cx_top.proofs.Answering.{good_is_written}
-use Rattle.cx_top.proofs.laws.windows_are_written.Goals as goal
-
-pub returns : goal.returns
-returns c = good_is_written
