@@ -45,6 +45,7 @@ def wrongs(case, outcome):
         lines += [f'output: {line}' for line in differences(outcome.output, case.output)]
     if outcome.status == usage and outcome.was_read:
         lines.append(f'{outcome.was_read} bytes were read')
-    if outcome.status == done and outcome.was_read != len(case.input):
+    is_whole = case.words[:1] != ['salvage'] or case.output == case.input  # else it ends at the first bad place
+    if outcome.status == done and is_whole and outcome.was_read != len(case.input):
         lines.append(f'{outcome.was_read} of {len(case.input)} bytes were read')
     return lines

@@ -5,7 +5,9 @@ their limits, counts that promise far more than there is, and noise.
 """
 import machines
 import programs
+import today
 from recordings import PAGE, RAM, Lines, Recording, Value, page, reset, word
+from recordings.calls import MAGIC as CALLS, called, read_calls
 from recordings.fields import varint
 from recordings.live import record, seeded
 from recordings.observations import shown
@@ -24,7 +26,8 @@ COUNTS = ('pages of RAM', 'base', 'pages that follow', 'number of a page', 'sect
 
 def read_either(data):
     """The fields of a recording, a slice or an image, by its first letters, and the offset of its first bad place."""
-    return (read_image if data[:3] == b'CXI' else read_slice if data[:4] == MAGIC else read)(data)
+    by_magic = {MAGIC: read_slice, CALLS: read_calls}
+    return (read_image if data[:3] == b'CXI' else by_magic.get(data[:4], read))(data)
 
 
 def fields(data):
@@ -123,10 +126,12 @@ def marked(pick):
 
 def sound(pick, with_images):
     """A good input, and words for a window of it."""
-    kind = pick.choice(['program', 'machine', 'marked', 'slice', *['image', 'image'] * with_images])
-    if kind == 'slice':
+    kind = pick.choice(['program', 'machine', 'marked', 'slice', *['call slice'] * today.SLICES_BY_CALLS,
+                        *['image', 'image'] * with_images])
+    if kind in ('slice', 'call slice'):
         roots = shown(programs.of_user(pick))
-        return sliced(roots[pick.choice(list(roots))][1]).spell(), (0, 1)
+        slicer = sliced if kind == 'slice' else called
+        return slicer(roots[pick.choice(list(roots))][1]).spell(), (0, 1)
     if kind == 'image':
         return machines.image(pick).spell(), (0, 1)
     if kind == 'machine':

@@ -4,10 +4,13 @@ import random
 
 import programs
 from recordings import MACHINE, RAM, Dma, Lines, Recording, State, Value, assemble, page, reset
-from recordings.alone import alone
+from recordings.alone import alone, called_alone
+from recordings.answers import Query, answered
+from recordings.calls import called, read_calls
 from recordings.image import Image
 from recordings.observations import shown
 from recordings.reading import read, read_image
+from recordings.salvaging import recording_of, salvaged
 from recordings.slices import read_slice, sliced
 
 EXAMPLE = pathlib.Path(__file__).resolve().parent.parent / 'examples' / 'two_steps.cxr'
@@ -114,3 +117,19 @@ def checks():
         yield f'the slice of the root {root:x} is read again', [] if is_same else [f'bad at {bad}, or another slice']
         is_same = alone(made.spell()) == (observed, None, None)
         yield f'the program of the root {root:x} goes alone', [] if is_same else ['it shows something else']
+        by_calls = called(observed)
+        reader, bad = read_calls(by_calls.spell())
+        is_same = bad is None and (reader.start, tuple(reader.records), reader.end) == (
+            by_calls.start, by_calls.records, by_calls.end)
+        yield f'the call slice of the root {root:x} is read again', [] if is_same else [f'bad at {bad}, or another']
+        is_same = called_alone(by_calls.spell()) == (observed, None, None)
+        yield f'the program of {root:x} goes alone by its calls', [] if is_same else ['it shows something else']
+    long = Recording(reset(), {0: page('j 0')}, base=65530, end=65540).marked()
+    is_same = recording_of(read(long.spell())[0], long.end).spell() == long.spell()
+    yield 'a recording that was read is spelled again', [] if is_same else ['it is spelled otherwise']
+    yield 'a good recording is saved whole', [] if salvaged(long.spell()) == (long.spell(), None) else ['it is not']
+    cut = long.but(events=(), end=65536).spell()
+    yield 'a cut recording is saved up to its mark', [] if salvaged(long.spell()[:-1]) == (cut, None) else ['it is not']
+    queries = (Query('reader', 65540, RAM), Query('writer', 65540, RAM), Query('trap', 65530))
+    want = b'reader 80000000 65540 step 65539\nwriter 80000000 65540 none\ntrap 65530 none\n'
+    yield 'a loop reads its word', [] if answered(long, queries) == want else ['another answer']

@@ -1,4 +1,6 @@
 """What the program takes today. Cases that depend on it ask here, so a new program is met by changing this file."""
+from dataclasses import replace
+
 from statuses import broken, done, not_built
 
 # Whether records other than End are read: Dma, Lines, Value and Mark.
@@ -14,17 +16,33 @@ CALLS_MISSING_VALUES_BROKEN = True
 # doesn't: of a million before one step it keeps more than the 64 MB that every input may take.
 CROWDS_FIT = False
 
-# Whether the disk of an image takes memory as its bytes come. A program that takes all of it at once wants 64 MB for the
-# most sectors that an image may promise, and its own code beside them.
+# Whether the disk of an image takes memory as its bytes come. A program that takes all of it at once wants 64 MB for
+# the most sectors that an image may promise, and its own code beside them.
 DISKS_GROW = False
 
 # Whether machines are recorded. A program that doesn't do it says so, and reads nothing.
 RECORDS = True
 not_recorded = not_built(0)
 
+# Whether call slices are made, by `calls` and by `relog`, and replayed. A program that doesn't do it says so.
+SLICES_BY_CALLS = True
 
-# Whether slices by calls are made and replayed. A program that doesn't do it says so.
-SLICES_BY_CALLS = False
+# Whether recordings are asked by `inspect`.
+INSPECTS = True
+
+# Whether recordings are saved by `salvage`.
+SALVAGES = False
+
+# Whether images are made by `make`.
+MAKES = True
+
+# Whether they are told about by `demo`.
+DEMOS = False
+
+
+def once(is_built, cases):
+    """These cases; where the program doesn't have yet what they are about, it has to say so and to write nothing."""
+    return cases if is_built else [replace(each, status=not_built(0), output=b'') for each in cases]
 
 
 def without_value(step):

@@ -4,6 +4,7 @@ from recordings import MACHINE, RAM, Recording, State, page
 from recordings.assembler import assemble
 from recordings.recording import Dma, Lines, Value
 from statuses import broken, done, format_at, not_built
+from today import SLICES_BY_CALLS
 
 BLOCK = 4096
 
@@ -67,7 +68,8 @@ CASES = [
          + line(1, ASKED.start.after(1, pc=RAM + 4, a0=7), assemble('j 0')[0])),
     case('a replay that is broken comes behind the whole blocks', 'replay', looped(100).but(events=(Value(50, 7),)),
          broken(50), loop_lines(50)[:len(loop_lines(50)) // BLOCK * BLOCK]),
-    case('the magic of a call slice, with more behind it', 'replay', b'CXC1\1\0\0\0', not_built(0)),
+    case('the magic of a call slice, with more behind it', 'replay', b'CXC1\1\0\0\0',
+         format_at(8) if SLICES_BY_CALLS else not_built(0)),
     case('a slice that is traced', 'trace all', b'CXP1\1', format_at(0)),
     case('a magic of nothing', 'replay', b'CXS1', format_at(0)),
     case('a magic that is cut off', 'replay', b'CXP', format_at(3)),

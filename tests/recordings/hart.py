@@ -48,8 +48,10 @@ class Hart:
         self.forget()
 
     def forget(self):
-        """Of the step, so far: the word, what it read and wrote, each an address and bytes, and what it was given."""
+        """Of the step, so far: the word, what it read and wrote, each an address and bytes, what it was given, and the
+        places in RAM that it looked at and stored to, each with a length."""
         self.word = self.read = self.written = self.given = None
+        self.looks, self.stores = [], []
 
     def state(self):
         named = {f'x{number}': self.registers[number] for number in range(1, 32)}
@@ -148,7 +150,7 @@ class Hart:
             at = table + 4 * index
             if not RAM <= at < RAM + len(self.memory):
                 raise Trap(ACCESS_FAULT[kind], va)
-            self.reads.add((at - RAM) // PAGE)
+            self.look(at, 4)
             entry = int.from_bytes(self.memory[at - RAM:at - RAM + 4], 'little')
             if not entry & V or entry & W and not entry & R:
                 raise Trap(PAGE_FAULT[kind], va)
@@ -201,9 +203,14 @@ class Hart:
             raise Trap(ACCESS_FAULT[FETCH], self.pc)
         return self.loaded(place, 4)
 
+    def look(self, place, length):
+        """Bytes that the step reads."""
+        self.reads.add((place - RAM) // PAGE)
+        self.looks.append((place, length))
+
     def loaded(self, place, length):
         at = place - RAM
-        self.reads.add(at // PAGE)
+        self.look(place, length)
         return int.from_bytes(self.memory[at:at + length], 'little')
 
     def load(self, va, length, kind=LOAD):
@@ -241,6 +248,7 @@ class Hart:
         """Bytes that RAM has from now on."""
         at = place - RAM
         self.memory[at:at + len(content)] = content
+        self.stores.append((place, len(content)))
 
     # Instructions.
 

@@ -44,7 +44,7 @@ pub record IsAhead (whole : SliceScan ℕ) (end at upto : ℕ) (waiting : Option
   pub spent : waiting ≡ None → unwrap_or left [] ≡ []
 
 -- Where the end was read nothing is left of the source.
-abbrev pub EndIsLast : Option GroupItems → Option (List ℕ) → Type 0
+abbrev pub EndIsLast : {W : Type 0} → Option W → Option (List ℕ) → Type 0
 EndIsLast waiting left = waiting ≡ None → unwrap_or left [] ≡ []
 
 -- What a reader has to be to go on, where a group waits: the next index is above that group's.

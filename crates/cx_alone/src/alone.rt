@@ -1,10 +1,12 @@
 //! The replay of a slice.
 
-ghost use Rattle.std.specs.Prelude.{◌≡◌, ◌<◌, ◌^◌, ℕ, List, None, IfErr, IfOk, IsSome, IsTrue, OnOk};
+ghost use Rattle.std.specs.Prelude.{◌≡◌, ◌<◌, ◌^◌, ℕ, List, None, IfErr, IfOk, IfSome, IsSome, IsTrue};
+ghost use Rattle.std.specs.Prelude.{OnOk};
 ghost use Rattle.cx_codec.specs.Place.{end_of};
 ghost use Rattle.cx_codec.specs.Reads.{over, place_in};
 ghost use Rattle.cx_io.specs.Cause.{HasCause};
 ghost use Rattle.cx_map.specs.Bytes.{AreBytes};
+ghost use Rattle.cx_observe.specs.Possible.{Possible};
 ghost use Rattle.cx_observe.specs.declared.obs.Obs.{Obs};
 ghost use Rattle.cx_replay.specs.Records.{GaveMore};
 ghost use Rattle.cx_slicefmt.specs.Rules.{process};
@@ -93,6 +95,7 @@ impl Alone {
         ensures ended { IfOk result (λ found. found ≡ None → self.new.ahead.waiting ≡ None) }
         ensures going { IfOk result (λ found. IsGoing self.new) }
         ensures count { CountsOn self.old.at self.new.at result }
+        ensures possible { IfOk result (λ found. IfSome found Possible) }
         ensures cause { HasCause ReplayFault.ReadFault (S.faults source.old) (S.faults source.new) result }
     {
         let due = self.ahead.settle(self.at, source)?;

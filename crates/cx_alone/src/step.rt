@@ -1,6 +1,7 @@
 //! A step of a program that runs alone.
 
-ghost use Rattle.std.specs.Prelude.{◌≡◌, []};
+ghost use Rattle.std.specs.Prelude.{◌≡◌, [], IfOk, IfSome};
+ghost use Rattle.cx_observe.specs.Possible.{Possible};
 ghost use Rattle.cx_observe.specs.Seeing.{seen_by};
 ghost use Rattle.cx_program.specs.Knowing.{known_by};
 ghost use Rattle.cx_slicefmt.specs.Engine.{items_in};
@@ -24,7 +25,8 @@ pub fn sees(obs: &Obs, bytes: &[(u32, u8)]) -> bool
 
 // Takes a step with what is known and given, which has to see each of these bytes.
 fn carry(standing: &mut Standing, bytes: &[(u32, u8)], given: Option<u32>) -> Result<Obs, Stop>
-    ensures { IsCarried (known_by standing.old) bytes.now given (known_by standing.new) result }
+    ensures carried { IsCarried (known_by standing.old) bytes.now given (known_by standing.new) result }
+    ensures possible { IfOk result Possible }
 {
     let Some(obs) = step(&standing.words, &standing.shadow, given) else {
         return Err(Stop::Broken);
@@ -39,7 +41,8 @@ fn carry(standing: &mut Standing, bytes: &[(u32, u8)], given: Option<u32>) -> Re
 
 // A step with its items.
 fn take_step(standing: &mut Standing, items: &GroupItems) -> Result<Obs, Stop>
-    ensures { IsTaken (known_by standing.old) (items_in items.now) (known_by standing.new) result }
+    ensures taken { IsTaken (known_by standing.old) (items_in items.now) (known_by standing.new) result }
+    ensures possible { IfOk result Possible }
 {
     hand(standing, items)?;
     carry(standing, items.bytes.as_slice(), items.given)
@@ -47,7 +50,8 @@ fn take_step(standing: &mut Standing, items: &GroupItems) -> Result<Obs, Stop>
 
 // A step without items.
 fn go_on(standing: &mut Standing) -> Result<Obs, Stop>
-    ensures { IsTaken (known_by standing.old) (no_items 32) (known_by standing.new) result }
+    ensures taken { IsTaken (known_by standing.old) (no_items 32) (known_by standing.new) result }
+    ensures possible { IfOk result Possible }
 {
     carry(standing, &[], None)
 }
@@ -55,7 +59,8 @@ fn go_on(standing: &mut Standing) -> Result<Obs, Stop>
 /// A step with what is due to it; none at the end. `Broken` comes exactly where an item stands already or isn't seen, or
 /// the program can't take the step. `NoMemory` is free.
 pub(crate) fn go_by(standing: &mut Standing, due: Due) -> Result<Option<Obs>, Stop>
-    ensures { GoesBy (known_by standing.old) (handed due) (known_by standing.new) result }
+    ensures goes { GoesBy (known_by standing.old) (handed due) (known_by standing.new) result }
+    ensures possible { IfOk result (λ taken. IfSome taken Possible) }
 {
     match due {
         Due::End => Ok(None),

@@ -27,5 +27,3 @@ mod slow;
 mod trap;
 #[cfg(test)]
 mod walk;
-#[cfg(test)]
-mod words;

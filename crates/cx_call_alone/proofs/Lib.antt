@@ -1,5 +1,12 @@
 pub mod Owed
 pub mod Placed
+pub mod RecordsBack
 pub mod Runs
 pub mod Accessed
 pub mod Steps
+pub mod Entries
+pub mod Midway
+pub mod Heads
+pub mod Judged
+pub mod Answering
+pub mod Opening

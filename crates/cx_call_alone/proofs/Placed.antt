@@ -183,6 +183,17 @@ between_past count k (suc n) past rs below =
     ∙ ap (λ ps. placed_of count k rs ∷ ps)
     (between_past count (suc k) n past rs (below_more k (suc k) past (omega arith) below))
 
+-- Steps below an index don't see records from it on.
+pub between_front : (count k n least : ℕ) (rs later : List Record) → k + n ≤ least → RecordsFrom least later
+    → placed_between count k n (rs ++ later) ≡ placed_between count k n rs
+between_front count k zero least rs later below from = refl
+between_front count k (suc n) least rs later below from =
+    ap (λ (p : Placed ℕ). p ∷ placed_between count (suc k) n (rs ++ later))
+    (with_both k (nothing_placed count) rs later
+    ∙ with_later k (placed_of count k rs) later (from_less (suc k) least later (omega (arith, below)) from))
+    ∙ ap (λ ps. placed_of count k rs ∷ ps)
+    (between_front count (suc k) n least rs later (omega (arith, below)) from)
+
 pub placed_back : (count k : ℕ) (ps : List (Placed ℕ)) → AreWide count ps
     → placed_between count k (length ps) (records_from k ps) ≡ ps
 placed_back count k [] wide = refl

@@ -4,3 +4,7 @@ pub mod Settled
 pub mod Running
 pub mod Standing
 pub mod Stepping
+pub mod Ahead
+pub mod Settling
+pub mod Going
+pub mod Replaying

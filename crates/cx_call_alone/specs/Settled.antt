@@ -4,7 +4,7 @@ use Rattle.std.specs.Prelude.{if◌then◌else◌}
 use Rattle.cx_callfmt.specs.Scan.{CallScan}
 use Rattle.cx_placing.specs.Called.{CallStanding, handed}
 use Rattle.cx_placing.specs.CallsAlone.{ends_settled, ran_called}
-use Rattle.cx_placing.specs.Placing.{no_head}
+use Rattle.cx_placing.specs.Placing.{CallSlice, no_head}
 use Rattle.cx_slices.specs.Items.{start}
 use Rattle.cx_slices.specs.Observed.{Watch}
 use Rattle.cx_slices.specs.Settled.{BadField, BreaksAt, SliceRefusal}
@@ -34,3 +34,8 @@ calls_bad m called s =
     else if s.ended && not (nothing_owed m called s)
     then Some (BreaksAt s.upto)
     else option_map BadField s.bad
+
+-- the slice that the settled steps are, whose items are so many words or none, and bytes
+abbrev pub slice_scanned : ℕ → CallScan → CallSlice ℕ
+slice_scanned count s =
+    record { head = unwrap_or s.head (no_head count); steps = placed_between count 0 s.upto s.records }

@@ -1,11 +1,13 @@
 //! A step with what is placed there.
 
-ghost use Rattle.std.specs.Prelude.{◌≡◌, IfOk, option_map};
+ghost use Rattle.std.specs.Prelude.{◌≡◌, None, IfOk, option_map};
 ghost use Rattle.cx_observe.specs.Possible.{Possible};
 ghost use Rattle.cx_placing.specs.Called.{CallStanding};
+ghost use Rattle.cx_call_alone.specs.Going.{GoesByCall, IsOver, RisesDue};
 ghost use Rattle.cx_call_alone.specs.Standing.{IsStanding, StepsTo};
 ghost use Rattle.cx_call_alone.specs.Stepping.{GoesBehind, RisesIn, number_of, placed_held};
 
+use crate::ahead::Due;
 use crate::called::Called;
 use crate::items::{CallItems, HeadItems};
 use crate::step::{access_all, called, is_its_call, meets, put_items, try_step};
@@ -63,4 +65,23 @@ pub(crate) fn take_step(
     }
     go_behind(standing, &obs, call)?;
     Ok(obs)
+}
+
+/// A step with what is due to it; none at the end. `Broken` comes exactly where it breaks a rule, or where something is
+/// owed at the end. `NoMemory` is free.
+pub(crate) fn go_by(standing: &mut Called, due: Due) -> Result<Option<Obs>, Stop>
+    ensures goes { (s : CallStanding) → IsStanding s standing.old → RisesDue due
+        → GoesByCall s due standing.new result }
+    ensures over { IfOk result (λ found. found ≡ None → IsOver due) }
+{
+    match due {
+        Due::End => {
+            if standing.is_settled() {
+                Ok(None)
+            } else {
+                Err(Stop::Broken)
+            }
+        }
+        Due::Step(step) => Ok(Some(take_step(standing, &step.items, step.given, &step.call)?)),
+    }
 }

@@ -1,5 +1,6 @@
 pub mod Entries
 pub mod Texts
+pub mod Sizes
 pub mod Scans
 pub mod HandedOut
 pub mod Spelled

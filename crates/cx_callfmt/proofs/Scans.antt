@@ -33,7 +33,7 @@ use Rattle.cx_callfmt.specs.Text.{call_end_text, call_entry_text, ended_records_
 use Rattle.cx_callfmt.proofs.Entries.{comes, once_record, reads_last, reads_record}
 
 -- an entry takes a byte at least
-record_some : (behind : Behind) (g : Record) → 1 ≤ length (record_text behind.index g)
+pub record_some : (behind : Behind) (g : Record) → 1 ≤ length (record_text behind.index g)
 unfolding record_text
 record_some behind g = omega arith
 
@@ -50,7 +50,7 @@ ended_some behind [] count = end_some behind count
 ended_some behind (g ∷ gs) count =
     omega (arith, length-append (record_text behind.index g) (ended_records_text g.index gs count), record_some behind g)
 
-shorter : (p after : Place) (text : List ℕ) → Takes p text after → 1 ≤ length text → length after.ahead < length p.ahead
+pub shorter : (p after : Place) (text : List ℕ) → Takes p text after → 1 ≤ length text → length after.ahead < length p.ahead
 shorter p after text takes some = omega (arith, ap length takes.ahead, length-append text after.ahead, some)
 
 -- ---- records that can be spelled are scanned

@@ -23,8 +23,11 @@ abbrev pub behind_records : Behind → List Record → Behind
 behind_records behind [] = behind
 behind_records behind (r ∷ rs) = behind_records (behind_record r) rs
 
--- They are the text of records from here on.
-pub record AreKept (behind : Behind) (kept : Kept) : Type 0 where
-  pub records : List Record
+-- They are the text of these records from here on.
+pub record AreOf (behind : Behind) (kept : Kept) (records : List Record) : Type 0 where
   pub text : kept.text ≡ records_text behind.index records
   pub next : kept.behind ≡ behind_records behind records
+
+-- the same for some records
+abbrev pub AreKept : Behind → Kept → Type 0
+AreKept behind kept = ∥ ((records : List Record) × AreOf behind kept records) ∥₁

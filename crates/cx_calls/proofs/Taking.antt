@@ -1,10 +1,10 @@
 -- An observation is taken.
-use Rattle.std.proofs.Common.{◌≡◌, ℕ, suc, ◌+◌, ◌||◌, Bool, true, false, List, [], ◌∷◌, ◌++◌, Option, None, Some, is_some}
+use Rattle.std.proofs.Common.{◌≡◌, ℕ, suc, ◌+◌, ◌||◌, Bool, true, false, List, ◌++◌, Option, None, Some, is_some}
 use Rattle.std.proofs.Common.{Result, Ok, Err, OnOk, if◌then◌else◌, refl, sym, ap, ap₂, ◌∙◌, arith}
 use Rattle.std.specs.Option.{option_or}
 use Rattle.cx_callfmt.proofs.Texts.{behind_index, behind_more, records_more}
-use Rattle.cx_callfmt.specs.Rules.{Behind, behind_start, may_come}
-use Rattle.cx_callfmt.specs.Text.{last_index, records_text}
+use Rattle.cx_callfmt.specs.Rules.{Behind}
+use Rattle.cx_callfmt.specs.Text.{records_text}
 use Rattle.cx_callfmt.specs.Writing.{behind_records}
 use Rattle.cx_marks.specs.Marked.{is_marked}
 use Rattle.cx_marks.specs.declared.marks.Marks.{Marks}
@@ -13,7 +13,7 @@ use Rattle.cx_observe.specs.Seeing.{bytes_shown, seen_by, sights}
 use Rattle.cx_observe.specs.User.{user}
 use Rattle.cx_observe.specs.declared.obs.Obs.{Obs}
 use Rattle.cx_placing.proofs.Cells.{byte_found-append}
-use Rattle.cx_placing.specs.Gathering.{Gathered, behind_now, gathered_by, missed_now, words_now}
+use Rattle.cx_placing.specs.Gathering.{Gathered, gathered_by}
 use Rattle.cx_placing.specs.Placing.{placed_at, words_placed}
 use Rattle.cx_placing.specs.Records.{Record, item_records}
 use Rattle.cx_placing.specs.Touched.{Touched, first_touched, touched_again, touching}
@@ -24,7 +24,7 @@ use Rattle.cx_slices.proofs.Bytes.{BytesRise-sorted}
 use Rattle.cx_slices.proofs.Missing.{BytesRise-filter, BytesRise-missing}
 use Rattle.cx_slices.proofs.OneStep.{same_items}
 use Rattle.cx_slices.specs.Bytes.{Byte, BytesRise, Map, byte_found, missing}
-use Rattle.cx_slices.specs.Items.{Items, Known, after}
+use Rattle.cx_slices.specs.Items.{Known, after}
 use Rattle.cx_slices.specs.Words.{changes}
 use Rattle.cx_calls.specs.Gathers.{IsGathered, behind_last}
 use Rattle.cx_calls.specs.declared.gatherer.Gatherer.{Gatherer}
@@ -104,7 +104,7 @@ pub record IsKept (o : Obs) (old new : Gatherer) (words : List (Option ℕ)) (fi
   pub count : new.count ≡ old.count + 1
   pub last : new.last ≡ old.last
 
-one_up : (n k c : ℕ) → c ≡ n + 1 → n ≡ k → c ≡ suc k
+pub one_up : (n k c : ℕ) → c ≡ n + 1 → n ≡ k → c ≡ suc k
 one_up n k c is same = omega (arith, is, same)
 
 pub taken : (g : Gathered) (o : Obs) (old new : Gatherer) (held : Standing) (marks : Marks)

@@ -1,5 +1,5 @@
 -- What a gatherer stands for.
-use Rattle.std.specs.Prelude.{◌≡◌, ℕ, true, ◌||◌, Bool, List, Option, None, Some, is_some, if◌then◌else◌}
+use Rattle.std.specs.Prelude.{◌≡◌, ℕ, Option, None, Some, true, List, is_some}
 use Rattle.cx_callfmt.specs.Rules.{Behind, behind_start}
 use Rattle.cx_callfmt.specs.Text.{records_text}
 use Rattle.cx_callfmt.specs.Writing.{behind_records}
@@ -37,3 +37,7 @@ pub record IsSame (old new : Gatherer) : Type 0 where
   pub count : new.count ≡ old.count
   pub known : known_by new.standing ≡ known_by old.standing
   pub touched : is_marked new.touched ≡ is_marked old.touched
+
+-- Each address that has a byte is marked.
+abbrev pub AllMarked : Touched → List Byte → Type 0
+AllMarked touched es = (a : ℕ) → is_some (byte_found es a) ≡ true → touched a ≡ true

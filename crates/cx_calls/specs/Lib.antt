@@ -1,2 +1,5 @@
 pub mod Calling
 pub mod Gathers
+pub mod Begun
+pub mod Slicing
+pub mod Stands

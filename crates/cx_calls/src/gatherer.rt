@@ -12,14 +12,16 @@ ghost use Rattle.cx_observe.specs.User.{user};
 ghost use Rattle.cx_placing.specs.Gathering.{Gathered, gathered_by, gathered_none};
 ghost use Rattle.cx_placing.specs.Placing.{words_placed};
 ghost use Rattle.cx_placing.specs.Records.{item_records};
-ghost use Rattle.cx_placing.specs.Touched.{touching, untouched};
-ghost use Rattle.cx_program.specs.Knowing.{HasRoom, known_by};
+ghost use Rattle.cx_placing.specs.Touched.{accesses, touching, untouched};
+ghost use Rattle.cx_program.specs.Knowing.{HasRoom, IsKnown, known_by};
 ghost use Rattle.cx_shadow.specs.Cells.{AreHeld};
 ghost use Rattle.cx_slices.specs.Bytes.{BytesRise, byte_found};
 ghost use Rattle.cx_slices.specs.Items.{after};
 
 use crate::items::{Missed, bytes_missed, changes};
+use crate::touching::all_touched;
 use cx_callfmt::KeptRecords;
+use cx_decode::Decoder;
 use cx_io::NoMemory;
 use cx_marks::Marks;
 use cx_observe::Obs;
@@ -39,6 +41,7 @@ pub(crate) struct Gatherer {
     pub(crate) missed: Vec<(u32, u8)>,
     pub(crate) behind: KeptRecords,
     pub(crate) count: u64,
+    pub(crate) decoder: Decoder,
 }
 
 // Makes room for marks at these addresses.
@@ -84,6 +87,16 @@ fn words_of_last(
     if first { *words } else { *old }
 }
 
+// No word comes with the last call, where the first step behind it changes none.
+#[inline]
+fn pass_first(words: &mut [Option<u32>; 32], first: bool)
+    ensures { words.new ≡ (if first then replicate 32 None else words.old) }
+{
+    if first {
+        *words = [None; 32];
+    }
+}
+
 // Keeps what a step is handed: the bytes that come with the last call, and the others with its words in a record.
 fn keep(
     missed: &mut Vec<(u32, u8)>,
@@ -120,7 +133,7 @@ impl Gatherer {
     ghost use Rattle.cx_calls.specs.Gathers.{IsGathered, IsSame};
 
     /// Before the first observation nothing is gathered.
-    pub(crate) fn new(alloc: Global) -> Gatherer
+    pub(crate) fn new(alloc: Global, decoder: Decoder) -> Gatherer
         ensures { IsGathered (gathered_none user) result }
     {
         Gatherer {
@@ -132,6 +145,7 @@ impl Gatherer {
             missed: Vec::new(alloc),
             behind: KeptRecords::new(alloc),
             count: 0,
+            decoder,
         }
     }
 
@@ -154,20 +168,40 @@ impl Gatherer {
     {
         self.words = words_of_last(self.first, &self.words, words);
         self.standing.see(obs);
-        self.standing.leave(obs);
+        self.standing.go_on(obs, &mut self.decoder);
         mark(&mut self.touched, seen.as_slice(), written.as_slice());
         self.first = false;
         self.count += 1;
     }
 
-    /// Takes the next observation, as one that is no call. Where memory is refused, nothing has changed.
-    pub(crate) fn take(&mut self, obs: &Obs) -> Result<(), NoMemory>
+    // Takes a step that is handed nothing: all of it stands, and all that it accesses was accessed before.
+    fn pass(&mut self, obs: &Obs) -> Result<(), NoMemory>
+        requires possible { Possible obs.now }
+        requires known { IsKnown (known_by self.old.standing) obs.now }
+        requires touched { (a : ℕ) → accesses user obs.now a ≡ true → is_marked self.old.touched a ≡ true }
+        requires most { self.old.count < 2 ^ 48 }
+        ensures takes { (g : Gathered) → IsGathered g self.old
+            → OnOk result (IsGathered (gathered_by user g obs.now None) self.new) }
+        ensures refused { OnErr result (IsSame self.old self.new) }
+        ensures count { OnOk result (self.new.count ≡ self.old.count + 1) }
+    {
+        self.standing.hold_for(obs, true)?;
+        pass_first(&mut self.words, self.first);
+        self.standing.go_on(obs, &mut self.decoder);
+        self.first = false;
+        self.count += 1;
+        Ok(())
+    }
+
+    // Takes any step.
+    fn gather(&mut self, obs: &Obs) -> Result<(), NoMemory>
         requires possible { Possible obs.now }
         requires order { may_come self.old.behind.behind 0 self.old.count ≡ true }
         requires most { self.old.count < 2 ^ 48 }
         ensures takes { (g : Gathered) → IsGathered g self.old
             → OnOk result (IsGathered (gathered_by user g obs.now None) self.new) }
         ensures refused { OnErr result (IsSame self.old self.new) }
+        ensures count { OnOk result (self.new.count ≡ self.old.count + 1) }
     {
         let seen = bytes_seen(obs);
         let written = bytes_written(obs);
@@ -186,6 +220,22 @@ impl Gatherer {
         )?;
         self.go_on(obs, &words, &seen, &written);
         Ok(())
+    }
+
+    /// Takes the next observation, as one that is no call. Where memory is refused, nothing has changed.
+    pub(crate) fn take(&mut self, obs: &Obs) -> Result<(), NoMemory>
+        requires possible { Possible obs.now }
+        requires order { may_come self.old.behind.behind 0 self.old.count ≡ true }
+        requires most { self.old.count < 2 ^ 48 }
+        ensures takes { (g : Gathered) → IsGathered g self.old
+            → OnOk result (IsGathered (gathered_by user g obs.now None) self.new) }
+        ensures refused { OnErr result (IsSame self.old self.new) }
+        ensures count { OnOk result (self.new.count ≡ self.old.count + 1) }
+    {
+        if self.standing.has(obs) && all_touched(&self.touched, obs) {
+            return self.pass(obs);
+        }
+        self.gather(obs)
     }
 
     /// Begins anew behind the call at an index, with its number.

@@ -86,7 +86,7 @@ nothing_written full a b bytes may cut base status.Usage is = absurd is
 nothing_written full a b bytes may cut base status.WorldFault is = absurd is
 nothing_written full a b bytes may cut base (status.NotBuilt n) is = absurd is
 
-good_so_far : (n : ℕ) (there : Bool) → IsGoodSoFar n (judged None there)
+pub good_so_far : (n : ℕ) (there : Bool) → IsGoodSoFar n (judged None there)
 good_so_far n true = tt
 good_so_far n false = tt
 

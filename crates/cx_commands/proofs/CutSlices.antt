@@ -3,6 +3,7 @@ use Rattle.std.proofs.Common.{◌≡◌, ℕ, zero, suc, ◌+◌, ◌-◌, ◌<�
 use Rattle.std.proofs.Common.{List, [], ◌∷◌, ◌++◌, length, take, Option, None, Some, Err, if◌then◌else◌, eqb-true}
 use Rattle.std.proofs.Common.{refl, ap, sym, subst, ◌∙◌, arith, ⊎_elim, length-append}
 use Rattle.std.proofs.lemmas.Bool.{cases_lt, le-ltb, lt-ltb, eqb-false}
+use Rattle.std.proofs.lemmas.List.{take_at}
 use Rattle.cx_codec.specs.Again.{IsCut}
 use Rattle.cx_codec.specs.Fields.{bytes_at}
 use Rattle.cx_codec.specs.Place.{Place, Takes, end_of, room}
@@ -28,7 +29,7 @@ use Rattle.cx_slices.proofs.Streams.{run_alone-stopped}
 use Rattle.cx_commands.specs.Doing.{judged, there_of}
 use Rattle.cx_commands.specs.Opening.{kind_at}
 use Rattle.cx_commands.specs.Process.{slice_of}
-use Rattle.cx_commands.specs.Replay.{by_kind, replaying, slice_refusal}
+use Rattle.cx_commands.specs.Replay.{by_kind, calls_refusal, replaying, slice_refusal}
 use Rattle.cx_commands.specs.Slicing.{CanBeSliced}
 use Rattle.cx_commands.specs.Trace.{tracing}
 use Rattle.cx_commands.specs.declared.status.Status.TheVariants as status
@@ -226,7 +227,7 @@ cut_is_refused os bytes more can same some =
 too_short : (bytes : List ℕ) → length bytes < 4 → nat_lt (room (start_of bytes)) 4 ≡ true
 too_short bytes short = lt-ltb (room (start_of bytes)) 4 (omega (arith, short))
 
-short_kind : (bytes : List ℕ) → length bytes < 4
+pub short_kind : (bytes : List ℕ) → length bytes < 4
     → kind_at (start_of bytes) ≡ Err ((start_of bytes).at + room (start_of bytes))
 unfolding kind_at bytes_at
 short_kind bytes short = rw (too_short bytes short) refl
@@ -236,22 +237,22 @@ short_field : (bytes : List ℕ) → length bytes < 4
 unfolding opened_at magic_at bytes_at first_bad
 short_field bytes short = rw (too_short bytes short) refl
 
-short_is_bad : (bytes : List ℕ) → length bytes < 4 → replaying.refusal bytes ≡ Some (status.Format (length bytes))
+pub short_is_bad : (bytes : List ℕ) → length bytes < 4 → replaying.refusal bytes ≡ Some (status.Format (length bytes))
 short_is_bad bytes short =
-    ap (by_kind (tracing.refusal bytes) slice_refusal (Some (status.NotBuilt 0))) (short_kind bytes short)
+    ap (by_kind (tracing.refusal bytes) slice_refusal calls_refusal) (short_kind bytes short)
     ∙ ap (λ (bad : Option Refusal). judged bad (there_of (λ o s. true) bytes)) (short_field bytes short)
     ∙ ap (λ (n : ℕ). Some (status.Format n)) (omega arith)
 
 -- ---- any front
 
-with_magic : (bytes front more : List ℕ) → front ++ more ≡ slice_magic ++ bytes → 4 ≤ length front
-    → (rest : List ℕ) × (front ≡ slice_magic ++ rest)
-with_magic bytes [] more same long = absurd (omega (arith, long))
-with_magic bytes (a ∷ []) more same long = absurd (omega (arith, long))
-with_magic bytes (a ∷ b ∷ []) more same long = absurd (omega (arith, long))
-with_magic bytes (a ∷ b ∷ c ∷ []) more same long = absurd (omega (arith, long))
-with_magic bytes (a ∷ b ∷ c ∷ d ∷ rest) more same long =
-    (rest, ap (λ (m : List ℕ). m ++ rest) (ap (take 4) same))
+pub with_magic : (magic bytes front more : List ℕ) → length magic ≡ 4 → front ++ more ≡ magic ++ bytes
+    → 4 ≤ length front → (rest : List ℕ) × (front ≡ magic ++ rest)
+with_magic magic bytes [] more size same long = absurd (omega (arith, long))
+with_magic magic bytes (a ∷ []) more size same long = absurd (omega (arith, long))
+with_magic magic bytes (a ∷ b ∷ []) more size same long = absurd (omega (arith, long))
+with_magic magic bytes (a ∷ b ∷ c ∷ []) more size same long = absurd (omega (arith, long))
+with_magic magic bytes (a ∷ b ∷ c ∷ d ∷ rest) more size same long =
+    (rest, ap (λ (m : List ℕ). m ++ rest) (ap (take 4) same ∙ take_at magic bytes 4 size))
 
 pub cut_is_bad : (bytes front more : List ℕ) → AreBytes bytes → replaying.refusal (slice_magic ++ bytes) ≡ None
     → front ++ more ≡ slice_magic ++ bytes → 1 ≤ length more
@@ -259,7 +260,7 @@ pub cut_is_bad : (bytes front more : List ℕ) → AreBytes bytes → replaying.
 cut_is_bad bytes front more are good parts some = ⊎_elim (λ (short : length front < 4). short_is_bad front short)
     (λ (long : 4 ≤ length front).
     let whole = good_is_slice bytes are good in
-    let magic = with_magic bytes front more parts long in
+    let magic = with_magic slice_magic bytes front more refl parts long in
     let same : (slice_magic ++ magic.0) ++ more ≡ slice_of whole.observed =
     ap (λ (xs : List ℕ). xs ++ more) (sym magic.1) ∙ parts ∙ whole.is in
     subst (λ (xs : List ℕ). replaying.refusal xs ≡ Some (status.Format (length xs))) (sym magic.1)

@@ -78,16 +78,20 @@ done_too d e one other held now (status.Format o) same done = absurd done
 done_too d e one other held now (status.Broken n) same done = absurd done
 done_too d e one other held now (status.NotBuilt n) same done = absurd done
 
+-- what a call appends of an input that isn't refused, if another command writes the same of another input
+pub done_again : (d e : Doing) (text bytes : List ℕ) (whole cut : Type 0) (held now : Option (List ℕ)) (answer : Status)
+    → d.refusal text ≡ None → d.full text ≡ e.full bytes → whole → Answers d text whole cut answer
+    → Leaves d text whole cut answer held now → DoneAs e bytes held now answer
+done_again d e text bytes whole cut held now answer good same h says leaves =
+    done_too d e text bytes held now answer same
+    (done_as d text text whole cut held now answer (record { good = good; other_good = good; same = refl }) h says leaves)
+
 pub replayed_as : (root : ℕ) (bytes text given input : List ℕ) (left held now : Option (List ℕ)) (answer : Status)
     → AreBytes bytes → (slicing root).refusal bytes ≡ None → text ≡ (slicing root).full bytes
     → MayBeWhole left given input → Answers replaying text (MayBeWhole left given input) (input ≡ given) answer
     → Leaves replaying text (MayBeWhole left given input) (input ≡ given) answer held now
     → DoneAs (tracing_root root) bytes held now answer
-replayed_as root bytes text given input left held now answer are good written whole says leaves =
-    let not_refused : replaying.refusal text ≡ None =
-    ap replaying.refusal written ∙ slice_is_replayed root bytes are good in
-    let lines : replaying.full text ≡ (tracing_root root).full bytes =
-    ap replaying.full written ∙ lines_are_replayed root bytes are good in
-    done_too replaying (tracing_root root) text bytes held now answer lines
-    (done_as replaying text text (MayBeWhole left given input) (input ≡ given) held now answer
-    (record { good = not_refused; other_good = not_refused; same = refl }) whole says leaves)
+replayed_as root bytes text given input left held now answer are good written =
+    done_again replaying (tracing_root root) text bytes (MayBeWhole left given input) (input ≡ given) held now answer
+    (ap replaying.refusal written ∙ slice_is_replayed root bytes are good)
+    (ap replaying.full written ∙ lines_are_replayed root bytes are good)

@@ -3,6 +3,7 @@ pub mod Doings
 pub mod Streams
 pub mod LinesAgain
 pub mod Answering
+pub mod Inspecting
 pub mod LinesParts
 pub mod Upgraded
 pub mod Completeness
@@ -15,3 +16,9 @@ pub mod SliceReplays
 pub mod Isolated
 pub mod WindowsShow
 pub mod CutSlices
+pub mod CallsFit
+pub mod CallReplays
+pub mod CutCalls
+pub mod CallsIsolated
+pub mod Relogged
+pub mod Written

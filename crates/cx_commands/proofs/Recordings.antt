@@ -33,7 +33,7 @@ use Rattle.cx_commands.specs.Call.{Carries, input_behind}
 use Rattle.cx_commands.specs.Doing.{Answers, CausedBy, IsGoodSoFar, IsUntouched, Judges, Leaves, LeavesFront}
 use Rattle.cx_commands.specs.Faults.{status_of_image, status_of_record}
 use Rattle.cx_commands.specs.Record.{AsksSeed, AsksSteps, IsImageRefusal, IsLiveRecording, IsRecordStatus, IsSeededStatus}
-use Rattle.cx_commands.specs.Record.{Reached, Recorded}
+use Rattle.cx_commands.specs.Record.{Recorded}
 use Rattle.cx_commands.specs.Record.{Records, Refused, RunsToEnd, recording, refusal_of_image, seed_as_answer, seeded}
 use Rattle.cx_commands.specs.Record.{text_of_run, text_over, told_behind_seed}
 use Rattle.cx_commands.specs.declared.status.Status.{Status}
@@ -42,6 +42,7 @@ use Rattle.cx_commands.proofs.Carrying.{adds_none, none_follows}
 use Rattle.cx_commands.proofs.Doings.{no_front}
 use Rattle.cx_commands.proofs.Seeding.{first_begin, told_first, told_of_seed}
 use Rattle.cx_words.specs.declared.command.Command.TheVariants.{Record}
+use Rattle.cx_words.specs.declared.question.Query.{Query}
 
 -- ---- reading
 
@@ -184,16 +185,18 @@ short_few : (image : Image) (steps : ℕ) (asked now : Option (List Outside)) (b
     → (s : IsShort image steps asked now base held) → length s.outs ≤ steps
 short_few image steps asked now base held s = omega (arith, s.most, length-append s.outs s.later)
 
-reached_carries : (steps : ℕ) (bytes : List ℕ) (whole cut : Type 0) (asked now : Option (List Outside))
-    (base held : Option (List ℕ)) (answer : Status) (image : Image) → (whole → image_of bytes ≡ Ok image)
-    → Recorded image steps asked now base held answer
-    → Carries (Some (Record steps)) bytes whole cut asked now base held answer
-reached_carries steps bytes whole cut asked now base held status.Done image is done =
+reached_carries : (steps : ℕ) (queries : List Query) (bytes : List ℕ) (whole cut : Type 0)
+    (asked now : Option (List Outside)) (base held : Option (List ℕ)) (answer : Status) (image : Image)
+    → (whole → image_of bytes ≡ Ok image) → Recorded image steps asked now base held answer
+    → Carries (Some (Record steps)) queries bytes whole cut asked now base held answer
+reached_carries steps queries bytes whole cut asked now base held status.Done image is done =
     let d = done.1 in
     let runs : live_run image (d.outs ++ []) ≡ Some d.run = ap (live_run image) (append-nil d.outs) ∙ d.runs.is in
     record {
+      image = [];
       answers = d.outs;
       later = [];
+      rests = tt;
       adds = d.told;
       follow = refl;
       asks = λ h. record { image = image; run = d.run; is = is h; runs = d.runs; recorded = d.recorded };
@@ -202,11 +205,13 @@ reached_carries steps bytes whole cut asked now base held status.Done image is d
           subst (λ (text : List ℕ). Appends base held text)
           (sym (text_is whole_text (d.outs ++ []) bytes image d.run (is h) runs)) d.written;
     }
-reached_carries steps bytes whole cut asked now base held status.WorldFault image is d =
+reached_carries steps queries bytes whole cut asked now base held status.WorldFault image is d =
     let runs : live_run image (d.outs ++ []) ≡ Some d.run = ap (live_run image) (append-nil d.outs) ∙ d.goes.is in
     record {
+      image = [];
       answers = d.outs;
       later = [];
+      rests = tt;
       adds = d.told;
       follow = refl;
       asks = λ h. record { image = image; run = d.run; is = is h; goes = d.goes; fewer = d.fewer; cut = d.cut };
@@ -215,38 +220,45 @@ reached_carries steps bytes whole cut asked now base held status.WorldFault imag
           subst (λ (text : List ℕ). Appends base held (whole_blocks text))
           (sym (text_is cut_text (d.outs ++ []) bytes image d.run (is h) runs)) d.written;
     }
-reached_carries steps bytes whole cut asked now base held status.WriteFault image is s = record {
+reached_carries steps queries bytes whole cut asked now base held status.WriteFault image is s = record {
+  image = [];
   answers = s.outs;
   later = s.later;
+  rests = tt;
   adds = s.told;
   follow = tt;
   asks = short_few image steps asked now base held s;
   says = λ early h. ap refusal_of_image (is h);
   leaves = front_left (s.outs ++ s.later) bytes whole base held image s.run is s.is (s.front s.later s.run s.is s.most);
 }
-reached_carries steps bytes whole cut asked now base held status.NoMemory image is s = record {
+reached_carries steps queries bytes whole cut asked now base held status.NoMemory image is s = record {
+  image = [];
   answers = s.outs;
   later = s.later;
+  rests = tt;
   adds = s.told;
   follow = tt;
   asks = short_few image steps asked now base held s;
   says = tt;
   leaves = front_left (s.outs ++ s.later) bytes whole base held image s.run is s.is (s.front s.later s.run s.is s.most);
 }
-reached_carries steps bytes whole cut asked now base held status.Usage image is wrong = absurd wrong
-reached_carries steps bytes whole cut asked now base held (status.Format o) image is wrong = absurd wrong
-reached_carries steps bytes whole cut asked now base held (status.Broken n) image is wrong = absurd wrong
-reached_carries steps bytes whole cut asked now base held status.NotThere image is wrong = absurd wrong
-reached_carries steps bytes whole cut asked now base held status.ReadFault image is wrong = absurd wrong
-reached_carries steps bytes whole cut asked now base held (status.NotBuilt n) image is wrong = absurd wrong
+reached_carries steps queries bytes whole cut asked now base held status.Usage image is wrong = absurd wrong
+reached_carries steps queries bytes whole cut asked now base held (status.Format o) image is wrong = absurd wrong
+reached_carries steps queries bytes whole cut asked now base held (status.Broken n) image is wrong = absurd wrong
+reached_carries steps queries bytes whole cut asked now base held status.NotThere image is wrong = absurd wrong
+reached_carries steps queries bytes whole cut asked now base held status.ReadFault image is wrong = absurd wrong
+reached_carries steps queries bytes whole cut asked now base held (status.NotBuilt n) image is wrong = absurd wrong
 
-pub carries_steps : (steps : ℕ) (bytes : List ℕ) (whole cut : Type 0) (asked now : Option (List Outside))
-    (base held : Option (List ℕ)) (answer : Status) → Records steps bytes whole cut asked now base held answer
-    → Carries (Some (Record steps)) bytes whole cut asked now base held answer
-carries_steps steps bytes whole cut asked now base held answer records = elim records [
+pub carries_steps : (steps : ℕ) (queries : List Query) (bytes : List ℕ) (whole cut : Type 0)
+    (asked now : Option (List Outside)) (base held : Option (List ℕ)) (answer : Status)
+    → Records steps bytes whole cut asked now base held answer
+    → Carries (Some (Record steps)) queries bytes whole cut asked now base held answer
+carries_steps steps queries bytes whole cut asked now base held answer records = elim records [
   | inl refused ↦ record {
+    image = [];
     answers = [];
     later = [];
+    rests = tt;
     adds = subst (λ (n : Option (List Outside)). AddsAnswers asked n []) (sym refused.unasked) (adds_none asked);
     follow = none_follows answer;
     asks = refused_asks steps bytes whole answer refused.kind;
@@ -254,7 +266,7 @@ carries_steps steps bytes whole cut asked now base held answer records = elim re
     leaves = refused_leaves [] bytes whole cut asked now base held answer refused;
   }
   | inr reached ↦
-      reached_carries steps bytes whole cut asked now base held answer reached.image reached.is reached.recorded
+      reached_carries steps queries bytes whole cut asked now base held answer reached.image reached.is reached.recorded
 ]
 
 -- ---- a seed

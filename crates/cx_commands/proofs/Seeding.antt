@@ -1,12 +1,12 @@
 -- What a world that tells its seed says of its answers.
-use Rattle.std.proofs.Common.{◌≡◌, ℕ, zero, suc, ◌+◌, ◌-◌, ◌^◌, ◌<◌, ◌≤◌, Bool, true, false, cond, nat_lt, List, []}
+use Rattle.std.proofs.Common.{◌≡◌, ℕ, zero, suc, ◌-◌, ◌^◌, ◌<◌, ◌≤◌, Bool, true, false, cond, nat_lt, List, []}
 use Rattle.std.proofs.Common.{◌∷◌}
-use Rattle.std.proofs.Common.{◌++◌, length, Option, None, Some, MatchOption, Result, Ok, Err, refl, sym, ap, subst, ◌∙◌}
+use Rattle.std.proofs.Common.{◌++◌, length, Option, None, Some, Result, Ok, Err, refl, sym, ap, ◌∙◌}
 use Rattle.std.proofs.Common.{arith, append_assoc, inl, inr}
 use Rattle.std.proofs.lemmas.Bool.{cases_lt}
 use Rattle.std.proofs.lemmas.List.{append-nil}
 use Rattle.std.specs.Option.{option_map}
-use Rattle.cx_io.specs.SeedWorld.{Seeded, first_answers, seeded_answer, told_answers}
+use Rattle.cx_io.specs.SeedWorld.{Seeded, first_answers, seeded_answer}
 use Rattle.cx_io.specs.Turns.{AddsAnswer}
 use Rattle.cx_io.specs.declared.outside.Failed.{Failed}
 use Rattle.cx_io.specs.declared.outside.Outside.{Outside}

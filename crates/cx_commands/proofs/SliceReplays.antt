@@ -22,11 +22,10 @@ use Rattle.cx_slices.proofs.Settled.{alone_is_good, good_goes_alone}
 use Rattle.cx_commands.specs.Observed.{has_observation, observation_lines}
 use Rattle.cx_commands.specs.Opening.{kind_at}
 use Rattle.cx_commands.specs.Process.{slice_of}
-use Rattle.cx_commands.specs.Replay.{by_kind, replaying, slice_lines, slice_refusal, status_of_slice}
+use Rattle.cx_commands.specs.Replay.{by_kind, calls_lines, calls_refusal, replaying, slice_lines, slice_refusal, status_of_slice}
 use Rattle.cx_commands.specs.Slicing.{CanBeSliced}
 use Rattle.cx_commands.specs.Trace.{tracing}
 use Rattle.cx_commands.specs.declared.magic.Magic.TheVariants as kind
-use Rattle.cx_commands.specs.declared.status.Status.TheVariants as status
 use Rattle.cx_commands.proofs.Sliceable.{can_be_spelled}
 
 -- ---- the magic
@@ -40,11 +39,11 @@ slice_kind bytes =
     rw enough refl
 
 pub refused_as : (bytes : List ℕ) → replaying.refusal (slice_magic ++ bytes) ≡ slice_refusal (slice_scan bytes)
-refused_as bytes = ap (by_kind (tracing.refusal (slice_magic ++ bytes)) slice_refusal (Some (status.NotBuilt 0)))
+refused_as bytes = ap (by_kind (tracing.refusal (slice_magic ++ bytes)) slice_refusal calls_refusal)
     (slice_kind bytes)
 
 pub told_as : (bytes : List ℕ) → replaying.full (slice_magic ++ bytes) ≡ slice_lines (slice_scan bytes)
-told_as bytes = ap (by_kind (tracing.full (slice_magic ++ bytes)) slice_lines []) (slice_kind bytes)
+told_as bytes = ap (by_kind (tracing.full (slice_magic ++ bytes)) slice_lines calls_lines) (slice_kind bytes)
 
 -- ---- a slice goes alone
 
@@ -65,14 +64,28 @@ pub record Replays (text : List ℕ) (os : List Obs) : Type 0 where
   pub refusal : replaying.refusal text ≡ None
   pub full : replaying.full text ≡ observation_lines 0 os
 
+-- the scan of the slice of a list of observations
+pub scan_is : (os : List Obs) → CanBeSliced os
+    → slice_scan (ended_text 0 (groups_of user os) (length os))
+    ≡ record { groups = groups_of user os; upto = length os; bad = None }
+unfolding slice_text
+scan_is os can = slice_again (groups_of user os) (length os) (ended_text 0 (groups_of user os) (length os))
+    (can_be_spelled os can) (spelled_so (groups_of user os) (length os))
+  where
+    spelled_so : (groups : List (Group ℕ)) (count : ℕ)
+        → slice_magic ++ ended_text 0 groups count ≡ slice_text groups count
+    spelled_so groups count = refl
+
+pub gone_is : (os : List Obs) → CanBeSliced os → settled_run user (length os) (groups_of user os) ≡ os
+gone_is os can = settled_is (groups_of user os) (length os) os (program_goes os can.possible)
+
 scan_replays : (bytes : List ℕ) (os : List Obs) → CanBeSliced os
     → slice_scan bytes ≡ record { groups = groups_of user os; upto = length os; bad = None }
     → Replays (slice_magic ++ bytes) os
 scan_replays bytes os can is =
     let whole : SliceScan ℕ = record { groups = groups_of user os; upto = length os; bad = None } in
     let goes = program_goes os can.possible in
-    let run : settled_run user (length os) (groups_of user os) ≡ os = settled_is (groups_of user os) (length os) os goes
-    in
+    let run : settled_run user (length os) (groups_of user os) ≡ os = gone_is os can in
     let good : slice_bad user whole ≡ None = alone_is_good user whole (
       refl,
       subst (λ (ps : List Obs). alone_of user (groups_of user os) (length os) ≡ Ok ps) (sym run) goes,
@@ -84,14 +97,7 @@ scan_replays bytes os can is =
 
 pub slice_replays : (os : List Obs) → CanBeSliced os → Replays (slice_of os) os
 unfolding slice_text
-slice_replays os can =
-    scan_replays (ended_text 0 (groups_of user os) (length os)) os can
-    (slice_again (groups_of user os) (length os) (ended_text 0 (groups_of user os) (length os)) (can_be_spelled os can)
-    (spelled_so (groups_of user os) (length os)))
-  where
-    spelled_so : (groups : List (Group ℕ)) (count : ℕ)
-        → slice_magic ++ ended_text 0 groups count ≡ slice_text groups count
-    spelled_so groups count = refl
+slice_replays os can = scan_replays (ended_text 0 (groups_of user os) (length os)) os can (scan_is os can)
 
 -- ---- what goes alone is a slice
 
@@ -114,7 +120,7 @@ spelled_groups form least count (g ∷ groups) are =
       spelled_groups form (suc g.index) count groups are.1,
     )
 
-no_refusal : (bad : Option SliceRefusal) → option_map status_of_slice bad ≡ None → bad ≡ None
+pub no_refusal : (bad : Option SliceRefusal) → option_map status_of_slice bad ≡ None → bad ≡ None
 no_refusal None none = refl
 no_refusal (Some x) none = cc
 

@@ -18,8 +18,9 @@ use Rattle.cx_observe.specs.Observation.{observation_of}
 use Rattle.cx_observe.specs.Possible.{Possible}
 use Rattle.cx_observe.specs.User.{user}
 use Rattle.cx_observe.specs.declared.obs.Obs.{Obs}
-use Rattle.cx_observe.proofs.Faithful.{possible_by_itself, user_is_faithful, user_is_total}
+use Rattle.cx_observe.proofs.Faithful.{user_is_faithful, user_is_total}
 use Rattle.cx_observe.proofs.Fitting.{few_items, first_group, slice_fits}
+use Rattle.cx_observe.proofs.Programs.{all_by_themselves}
 use Rattle.cx_observe.proofs.UserLaw.{user_step}
 use Rattle.cx_run.specs.Due.{due_at}
 use Rattle.cx_run.specs.FirstBad.{bad_behind, first_bad}
@@ -32,7 +33,6 @@ use Rattle.cx_slicefmt.specs.Rules.{AreSpelled, process}
 use Rattle.cx_slicefmt.proofs.Entries.{groups_spelled}
 use Rattle.cx_slices.specs.Groups.{groups_from, groups_of}
 use Rattle.cx_slices.specs.Items.{Known, after, are_none, items_at, items_of, start}
-use Rattle.cx_slices.specs.Observed.{IsPossible}
 use Rattle.cx_slices.proofs.Groups.{AreGroups-groups_of}
 use Rattle.cx_slices.proofs.Runs.{possible_is_run}
 use Rattle.cx_commands.specs.Doing.{there_of}
@@ -138,10 +138,6 @@ good_shows root bytes are good =
     }
 
 -- ---- spelling
-
-all_by_themselves : (os : List Obs) → AllByRecursion Possible os → AllByRecursion (IsPossible user) os
-all_by_themselves [] possible = tt
-all_by_themselves (o ∷ os) possible = (possible_by_itself o possible.0, all_by_themselves os possible.1)
 
 few_bytes : (k : ℕ) (w : Known) (os : List Obs) → AllByRecursion Possible os
     → AllByRecursion (λ g. length g.items.bytes ≤ 8) (groups_from k (items_of user w os))

@@ -2,7 +2,8 @@
 use Rattle.std.specs.Prelude.{◌≡◌, true, false, ℕ, zero, suc, ◌+◌, ◌≤◌, ◌==◌, ◌&&◌, not, List, [], ◌∷◌, ◌++◌, length}
 use Rattle.std.proofs.Common.{append_assoc, arith, ap, length-append, sym, subst, ◌∙◌, refl}
 use Rattle.std.proofs.lemmas.List.{append-nil}
-use Rattle.std.proofs.lemmas.List.Elements.{filter_map-append}
+use Rattle.cx_calls.specs.Begun.{calls_added, calls_begun}
+use Rattle.cx_calls.proofs.Growing.{begins, grows}
 use Rattle.cx_codec.specs.Blocks.{whole}
 use Rattle.cx_codec.specs.Reads.{Begins}
 use Rattle.cx_hart.specs.declared.record.StepRec.{StepRec}
@@ -11,7 +12,6 @@ use Rattle.cx_log.specs.declared.order.Behind.{Behind}
 use Rattle.cx_log.specs.Recording.{Recorded}
 use Rattle.cx_log.specs.Reading.{Opened}
 use Rattle.cx_log.specs.Scan.{Scan}
-use Rattle.cx_observe.specs.Observation.{observation_of}
 use Rattle.cx_observe.specs.declared.obs.Obs.{Obs}
 use Rattle.cx_print.specs.Lines.{step_line}
 use Rattle.cx_process.specs.Slicing.{added_text}
@@ -23,8 +23,7 @@ use Rattle.cx_run.specs.Window.{events_between}
 use Rattle.cx_run.proofs.StepEvents.{step_more}
 use Rattle.cx_run.specs.SoFar.{behind_all, events_text}
 use Rattle.cx_run.proofs.TextSoFar.{text_on}
-use Rattle.cx_commands.specs.Observed.{has_observation, observations_in, occurs_in}
-use Rattle.cx_commands.specs.Process.{process_text, slice_begun}
+use Rattle.cx_commands.specs.Process.{slice_begun}
 use Rattle.cx_commands.specs.Streaming.{IsOrdered}
 use Rattle.cx_commands.specs.Upgrade.{first_events, front_text, start_of_records, upgrade_text}
 use Rattle.cx_commands.specs.Trace.{line_text, lines_from}
@@ -62,34 +61,34 @@ never_missing never = absurd (true_is_not_false never)
 
 -- ---- slices
 
-slice_grows : (os more : List Obs) → Begins (slice_begun os) (slice_begun (os ++ more))
-slice_grows os [] = record { rest = []; parts = ap slice_begun (append-nil os) ∙ sym (append-nil (slice_begun os)) }
-slice_grows os (o ∷ more) =
-    let first : slice_begun (os ++ o ∷ []) ≡ slice_begun os ++ added_text os o = body_grows os o in
-    let rest = slice_grows (os ++ o ∷ []) more in
+-- where each observation adds something, the text of more begins with that of fewer
+begun_grows : (text : List Obs → List ℕ) (added : List Obs → Obs → List ℕ)
+    → ((os : List Obs) (o : Obs) → text (os ++ o ∷ []) ≡ text os ++ added os o) → (os more : List Obs)
+    → Begins (text os) (text (os ++ more))
+begun_grows text added adds os [] = record { rest = []; parts = ap text (append-nil os) ∙ sym (append-nil (text os)) }
+begun_grows text added adds os (o ∷ more) =
+    let rest = begun_grows text added adds (os ++ o ∷ []) more in
     record {
-      rest = added_text os o ++ rest.rest;
-      parts = ap slice_begun (sym (append_assoc os (o ∷ []) more))
-          ∙ rest.parts ∙ ap (λ (t : List ℕ). t ++ rest.rest) first
-          ∙ append_assoc (slice_begun os) (added_text os o) rest.rest;
+      rest = added os o ++ rest.rest;
+      parts = ap text (sym (append_assoc os (o ∷ []) more))
+          ∙ rest.parts ∙ ap (λ (t : List ℕ). t ++ rest.rest) (adds os o)
+          ∙ append_assoc (text os) (added os o) rest.rest;
     }
 
-pub process_grows : (root : ℕ) (o : Opened) (s : Scan) (xs ys : List StepRec) → IsOrdered o s
-    → Begins (process_text root o s xs) (process_text root o s (xs ++ ys))
-process_grows root o s xs ys ordered =
-    subst (λ (os : List Obs). Begins (slice_begun (observations_in root xs)) (slice_begun os))
-    (sym (filter_map-append (λ rec. observation_of rec root) xs ys))
-    (slice_grows (observations_in root xs) (observations_in root ys))
+pub slice_grows : (os more : List Obs) → Begins (slice_begun os) (slice_begun (os ++ more))
+slice_grows = begun_grows slice_begun added_text body_grows
+
+pub call_slice_grows : (os more : List Obs) → Begins (calls_begun os) (calls_begun (os ++ more))
+call_slice_grows = begun_grows calls_begun calls_added grows
 
 -- nothing but the magic stands before the first observation, and that fills no block
-pub process_unwritten : (root : ℕ) (o : Opened) (s : Scan) (given : List StepRec) → occurs_in root given ≡ false
-    → whole (process_text root o s given) ≡ []
+pub slice_unwritten : whole (slice_begun []) ≡ []
 unfolding whole slice_body
-process_unwritten root o s given none = by_observations (observations_in root given) none
-  where
-    by_observations : (os : List Obs) → has_observation os ≡ false → whole (slice_begun os) ≡ []
-    by_observations [] none = refl
-    by_observations (o ∷ os) none = cc
+slice_unwritten = refl
+
+pub call_slice_unwritten : whole (calls_begun []) ≡ []
+unfolding whole
+call_slice_unwritten = ap whole begins
 
 -- ---- records
 

@@ -1,5 +1,5 @@
 -- What `roots` does: a line for each root that occurs in a recording, in the order in which they were first seen.
-use Rattle.std.specs.Prelude.{◌≡◌, true, false, ℕ, List, [], ◌++◌, None, Result, Ok, Err}
+use Rattle.std.specs.Prelude.{◌≡◌, true, false, ℕ, List, [], None, Result, Ok, Err}
 use Rattle.std.proofs.Common.{refl}
 use Rattle.cx_codec.specs.Place.{Place}
 use Rattle.cx_codec.specs.Reads.{Begins}

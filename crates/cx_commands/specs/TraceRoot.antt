@@ -1,5 +1,5 @@
 -- What `trace root` does: a line for each observation of a root, as the steps of a recording are settled.
-use Rattle.std.specs.Prelude.{◌≡◌, ℕ, List, length}
+use Rattle.std.specs.Prelude.{ℕ, List}
 use Rattle.cx_hart.specs.declared.record.StepRec.{StepRec}
 use Rattle.cx_log.specs.Reading.{Opened}
 use Rattle.cx_log.specs.Scan.{Scan}
@@ -14,8 +14,3 @@ shown_lines root o s records = observation_lines 0 (observations_in root records
 -- `trace root`: the lines of all observations, and of what is refused those of the settled steps
 abbrev pub tracing_root : ℕ → Doing
 tracing_root root = sought (occurs_in root) (shown_lines root) (settled_by (shown_lines root))
-
--- As many observations of the root as these steps have were told.
-pub record HasShown (told count root : ℕ) (given : List StepRec) : Type 0 where
-  pub same : told ≡ root
-  pub all : count ≡ length (observations_in root given)

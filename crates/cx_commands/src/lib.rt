@@ -11,9 +11,11 @@ mod magic;
 mod status;
 
 pub use laws::{
-    good_inputs_are_done, no_slice_is_cut, process_slices_are_of_one_run, recordings_are_live_runs,
-    slices_are_replayed, slices_show_one_program, traced_windows_are_parts, upgrades_run_alike,
-    windows_are_written, windows_of_windows_are_windows, windows_show_their_steps,
+    call_slices_are_of_one_run, call_slices_are_replayed, call_slices_show_one_program,
+    good_inputs_are_done, no_call_slice_is_cut, no_slice_is_cut, process_slices_are_of_one_run,
+    recordings_are_live_runs, relog_takes_process_slices, slices_are_relogged, slices_are_replayed,
+    slices_show_one_program, traced_windows_are_parts, upgrades_run_alike, windows_are_written,
+    windows_of_windows_are_windows, windows_show_their_steps,
 };
 pub use magic::Magic;
 pub use status::Status;

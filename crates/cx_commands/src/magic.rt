@@ -7,6 +7,6 @@ pub enum Magic {
     Recording,
     /// A slice of a process.
     Process,
-    /// A slice by its calls, which isn't read yet.
+    /// A slice of a process by its calls.
     Calls,
 }

@@ -8,6 +8,7 @@ ghost use Rattle.cx_log.specs.Engine.{IsStarted, output_of};
 ghost use Rattle.cx_log.specs.Item.{MayStand, behind_entry, dma_event, entry_of, entry_text, is_end};
 ghost use Rattle.cx_log.specs.Order.{IsHeader, MayEnd, MayFollow, behind_it};
 ghost use Rattle.cx_log.specs.Text.{end_text, header_text, record_text};
+ghost use Rattle.cx_log.specs.declared.limits.TheConstants.{MARK_DISTANCE, STEP_LIMIT};
 
 use crate::header::Header;
 use crate::item::{Item, What};
@@ -77,6 +78,14 @@ impl LogWriter {
         ensures { result ≡ self.now.output.live }
     {
         self.out.live()
+    }
+
+    /// What the records so far leave.
+    pub fn behind(&self) -> &Behind
+        ensures behind { result.now ≡ self.now.behind }
+        ensures mark { self.now.behind.mark ≤ STEP_LIMIT + MARK_DISTANCE }
+    {
+        &self.behind
     }
 
     /// Writes the next page, which isn't all zero and lies above the last one.

@@ -1,15 +1,15 @@
 -- Stamps, one by one.
 use Rattle.std.proofs.Common.{◌≡◌, ◌≢◌, ℕ, ◌+◌, ◌-◌, ◌<◌, ◌≤◌, ◌||◌, Bool, true, false, List, ◌∷◌, drop, length}
-use Rattle.std.proofs.Common.{Option, None, Some, is_some, refl, sym, ap, ◌∙◌, arith, inl, inr, eq-eqb}
+use Rattle.std.proofs.Common.{zero, suc, ◌&&◌, replicate, Option, None, Some, is_some, refl, sym, ap, ◌∙◌, arith, inl, inr, eq-eqb}
 use Rattle.std.specs.Prelude.{slice_index_or}
 use Rattle.std.proofs.lemmas.Bool.{cases_eq, ne_eqb, or_right}
 use Rattle.std.proofs.lemmas.List.{drop_more}
-use Rattle.cx_shadow.specs.Cells.{byte_of}
+use Rattle.cx_shadow.specs.Cells.{are_at, byte_of}
 use Rattle.cx_shadow.specs.declared.shadow.Shadow.{Shadow}
 use Rattle.cx_slices.proofs.Bytes.{is_byte-true}
 use Rattle.cx_slices.proofs.Small.{some_is_same}
 use Rattle.cx_slices.specs.Bytes.{Byte, byte_found, is_byte}
-use Rattle.cx_marks.specs.Marked.{is_marked}
+use Rattle.cx_marks.specs.Marked.{all_marked, is_marked}
 use Rattle.cx_marks.specs.Stamps.{AreBefore}
 use Rattle.cx_marks.specs.declared.marks.Marks.{Marks}
 
@@ -97,3 +97,10 @@ none_yet m turn before is a = false_unless_true (is_byte (byte_of m.stamps a) m.
 
 pub none_marked : (m : Marks) → ((a : ℕ) → byte_of m.stamps a ≡ None) → (a : ℕ) → is_marked m a ≡ false
 none_marked m none a = sym (marked_by m a None (none a))
+
+-- ---- a run of addresses
+
+pub run_is : (m : Marks) (a n : ℕ) → are_at (byte_of m.stamps) a (replicate n m.turn) ≡ all_marked m a n
+unfolding is_marked
+run_is m a zero = refl
+run_is m a (suc n) = ap (λ (t : Bool). is_marked m a && t) (run_is m (a + 1) n)

@@ -1,11 +1,12 @@
 //! The set.
 
-ghost use Rattle.std.specs.Prelude.{◌≡◌, ◌||◌, ℕ, true, false, is_some, IfOk};
+ghost use Rattle.std.specs.Prelude.{◌≡◌, ◌+◌, ◌≤◌, ◌%◌, ◌||◌, ℕ, true, false, is_some, IfOk};
 ghost use Rattle.cx_marks.specs.Stamps.{AreBefore};
 ghost use Rattle.cx_shadow.specs.Cells.{AreHeld, is_held};
 ghost use Rattle.cx_slices.specs.Bytes.{byte_found};
 
 use cx_io::NoMemory;
+use cx_map::PAGE_SIZE;
 use cx_shadow::Shadow;
 use std::alloc::Global;
 
@@ -19,7 +20,7 @@ pub struct Marks {
 }
 
 impl Marks {
-    ghost use Rattle.cx_marks.specs.Marked.{is_marked};
+    ghost use Rattle.cx_marks.specs.Marked.{all_marked, is_marked};
 
     /// The empty set, which takes no memory.
     pub fn new(alloc: Global) -> Marks
@@ -41,6 +42,18 @@ impl Marks {
             None => false,
             Some(turn) => turn == self.turn,
         }
+    }
+
+    /// Whether so many addresses, from one on, are in the set. They are four at most and lie on one page, so that one
+    /// look shows it.
+    #[inline]
+    pub fn has_run(&self, va: u32, len: usize) -> bool
+        requires few { len ≤ 4 }
+        requires page { va % PAGE_SIZE + len ≤ PAGE_SIZE }
+        ensures { result ≡ all_marked self.now va len }
+    {
+        let stamps = [self.turn; 4];
+        self.stamps.has(va, &stamps[..len])
     }
 
     /// Makes room for each of these addresses. The set stays, whatever the answer, and what has room keeps it.

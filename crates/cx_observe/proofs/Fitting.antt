@@ -56,7 +56,7 @@ bytes_on_fit va (b ∷ bs) are =
     let parts : (nat_lt b 256 ≡ true) × (are_bytes bs ≡ true) = and_parts (nat_lt b 256) (are_bytes bs) are in
     ((wrapped_fits va, ltb-true b 256 parts.0), bytes_on_fit (va + 1) bs parts.1)
 
-both_fit : (es fs : List Byte) → AllByRecursion IsByteAt es → AllByRecursion IsByteAt fs
+pub both_fit : (es fs : List Byte) → AllByRecursion IsByteAt es → AllByRecursion IsByteAt fs
     → AllByRecursion IsByteAt (es ++ fs)
 both_fit [] fs first second = second
 both_fit (e ∷ es) fs first second = (first.0, both_fit es fs first.1 second)
@@ -71,7 +71,7 @@ inserted_fit e (f ∷ fs) fits fit =
     (λ not_less. cond_both (e.0 == f.0) (e ∷ fs) (f ∷ inserted e fs) (AllByRecursion IsByteAt)
     (λ same. (fits, fit.1)) (λ other. (fit.0, rest)))
 
-sorted_fit : (es : List Byte) → AllByRecursion IsByteAt es → AllByRecursion IsByteAt (sorted es)
+pub sorted_fit : (es : List Byte) → AllByRecursion IsByteAt es → AllByRecursion IsByteAt (sorted es)
 sorted_fit [] fit = tt
 sorted_fit (e ∷ es) fit = inserted_fit e (sorted es) fit.0 (sorted_fit es fit.1)
 
@@ -103,7 +103,7 @@ observation_fits o possible = record {
   given = value_fits o.value possible.value;
 }
 
-each_fits : (os : List Obs) → AllByRecursion Possible os → AllByRecursion (ObservationFits user is_word) os
+pub each_fits : (os : List Obs) → AllByRecursion Possible os → AllByRecursion (ObservationFits user is_word) os
 each_fits [] possible = tt
 each_fits (o ∷ os) possible = (observation_fits o possible.0, each_fits os possible.1)
 
@@ -159,14 +159,14 @@ length-inserted e (f ∷ fs) =
     (λ not_less. cond_both (e.0 == f.0) (e ∷ fs) (f ∷ inserted e fs) (λ es. length es ≤ suc (suc (length fs)))
     (λ same. omega arith) (λ other. omega arith))
 
-length-sorted : (es : List Byte) → length (sorted es) ≤ length es
+pub length-sorted : (es : List Byte) → length (sorted es) ≤ length es
 length-sorted [] = omega arith
 length-sorted (e ∷ es) =
     let rest : length (sorted es) ≤ length es = length-sorted es in
     let more : length (inserted e (sorted es)) ≤ suc (length (sorted es)) = length-inserted e (sorted es) in
     omega arith
 
-length-filter : (keep : Byte → Bool) (es : List Byte) → length (filter keep es) ≤ length es
+pub length-filter : (keep : Byte → Bool) (es : List Byte) → length (filter keep es) ≤ length es
 length-filter keep [] = omega arith
 length-filter keep (e ∷ es) =
     let rest : length (filter keep es) ≤ length es = length-filter keep es in

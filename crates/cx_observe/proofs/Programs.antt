@@ -11,11 +11,11 @@ use Rattle.cx_observe.specs.User.{user}
 use Rattle.cx_observe.specs.declared.obs.Obs.{Obs}
 use Rattle.cx_observe.proofs.Faithful.{possible_again, possible_by_itself, user_is_faithful, user_is_total}
 
-all_by_themselves : (os : List Obs) → AllByRecursion Possible os → AllByRecursion (IsPossible user) os
+pub all_by_themselves : (os : List Obs) → AllByRecursion Possible os → AllByRecursion (IsPossible user) os
 all_by_themselves [] possible = tt
 all_by_themselves (o ∷ os) possible = (possible_by_itself o possible.0, all_by_themselves os possible.1)
 
-all_again : (os : List Obs) → AllByRecursion (IsPossible user) os → AllByRecursion Possible os
+pub all_again : (os : List Obs) → AllByRecursion (IsPossible user) os → AllByRecursion Possible os
 all_again [] possible = tt
 all_again (o ∷ os) possible = (possible_again o possible.0, all_again os possible.1)
 

@@ -17,7 +17,7 @@ pub(crate) fn hex_digit(n: u32) -> u8
 /// A word in eight digits.
 #[inline]
 #[tactic(auto, unfolding(crate::specs::Hex::hex))]
-pub(crate) fn word_digits(word: u32) -> [u8; 8]
+pub fn word_digits(word: u32) -> [u8; 8]
     ensures { result ≡ hex 8 word }
 {
     [

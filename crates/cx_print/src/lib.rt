@@ -17,11 +17,12 @@ mod operands;
 mod step;
 mod text;
 
+pub use hex::word_digits;
 pub use ins::ins_text;
 pub use laws::{
     a_root_line_is_short, a_state_line_is_short, a_step_line_is_short, an_observation_line_is_short,
 };
-pub use line::LINE_CAPACITY;
+pub use line::{LINE_CAPACITY, Line, put_ended};
 pub use obs::{obs_line, root_line};
 pub use step::{state_line, step_line};
 pub use text::{ShortText, TEXT_CAPACITY, Text};

@@ -16,7 +16,7 @@ use cx_observe::{Obs, Seen};
 pub const LINE_CAPACITY: usize = 742;
 
 /// A line, as it grows.
-pub(crate) type Line = ShortText<LINE_CAPACITY>;
+pub type Line = ShortText<LINE_CAPACITY>;
 
 /// Appends words, each behind a space.
 #[tactic(auto, using(crate::proofs::Spellings::in_a_row))]
@@ -134,7 +134,7 @@ pub(crate) fn put_value(line: &mut Line, value: Option<u32>)
 }
 
 /// Appends how a step ended.
-pub(crate) fn put_ended(line: &mut Line, ended: Ended)
+pub fn put_ended(line: &mut Line, ended: Ended)
     requires { length line.old + 20 ≤ LINE_CAPACITY }
     ensures text { line.new ≡ line.old ++ ended_text ended }
     ensures room { length line.new ≤ length line.old + 20 }

@@ -36,7 +36,7 @@ no_changes [] = refl
 no_changes (w ∷ ws) = and_from (is_none (if w == w then None else Some w)) (list_all is_none (changes ws ws))
     (ap (λ (t : Bool). is_none (if t then None else Some w)) (eq-eqb w w refl)) (no_changes ws)
 
-none_missing : (map : Map) (es : List Byte) → Shows map es → missing map es ≡ []
+pub none_missing : (map : Map) (es : List Byte) → Shows map es → missing map es ≡ []
 none_missing map [] shows = refl
 none_missing map (e ∷ es) shows =
     ap (λ t. if not t then e ∷ missing map es else missing map es) (is_byte-at (map e.0) e.1 shows.0)

@@ -6,4 +6,4 @@ mod laws;
 mod slicer;
 
 pub use laws::slices_grow_by_what_is_added;
-pub use slicer::Slicer;
+pub use slicer::{Slicer, new_decoder};

@@ -104,8 +104,8 @@ fn learn<T: Sink>(
     Ok(())
 }
 
-// A decoder that came across no word yet.
-fn new_decoder(alloc: Global) -> Result<Decoder, OutFault>
+/// A decoder that came across no word yet. `NoMemory` comes where memory is refused.
+pub fn new_decoder(alloc: Global) -> Result<Decoder, OutFault>
     ensures { IfErr result (λ e. e ≡ OutFault.NoMemory) }
 {
     match Decoder::new(alloc) {

@@ -24,10 +24,10 @@ fn push_on(into: &mut Bytes, va: u32, bytes: &[u8])
     }
 }
 
-// The first bytes of an access, as many as it has.
+/// The first bytes of an access, as many as it has.
 #[inline]
 #[tactic(auto, using(std::proofs::lemmas::List::take_min))]
-pub(crate) fn front(bytes: &[u8; 4], len: u8) -> &[u8]
+pub fn front(bytes: &[u8; 4], len: u8) -> &[u8]
     ensures bytes { result.now ≡ take len bytes.now }
     ensures few { length result.now ≤ 4 }
 {

@@ -11,7 +11,7 @@ mod standing;
 mod stepping;
 mod words;
 
-pub use bytes::{Bytes, bytes_seen, bytes_written};
+pub use bytes::{Bytes, bytes_seen, bytes_written, front};
 pub use standing::{Standing, has_byte};
 pub use stepping::step;
 pub use words::words_told;

@@ -265,6 +265,7 @@ impl KeptEvents {
             (onto writer.old.output (T.held sink.old) (T.faults sink.old))
             (onto writer.new.output (T.held sink.new) (T.faults sink.new)) result }
         ensures behind { OnOk result (writer.new.behind ≡ behind_all writer.old.behind self.now) }
+        ensures header { writer.new.header ≡ writer.old.header }
         ensures left { OnOk result (writer.new.left ≡ 0) }
     {
         let _ = end;

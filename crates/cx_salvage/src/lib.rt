@@ -6,4 +6,8 @@
 
 mod laws;
 
-pub use laws::{cuts_run_alike, good_inputs_are_saved_whole};
+pub use laws::{
+    cuts_run_alike, good_inputs_are_saved_whole, inputs_are_saved_behind_their_pages,
+    inputs_are_saved_to_their_last_good_mark, what_is_saved_is_accepted,
+    what_stands_fast_grows_with_good_marks, windows_of_a_cut,
+};

@@ -162,7 +162,7 @@ shorter : (m n : ℕ) (ss : List Stretch) → m ≤ n → AllByRecursion (λ s. 
 shorter m n [] less short = tt
 shorter m n (s ∷ ss) less short = (omega (arith, less, short.0), shorter m n ss less short.1)
 
-given_fits : (given : Option ℕ) → IfSome given (λ word. ltb word (2 ^ 32) ≡ true)
+pub given_fits : (given : Option ℕ) → IfSome given (λ word. ltb word (2 ^ 32) ≡ true)
     → IfSome given (λ word. word < 2 ^ 32)
 given_fits None fits = tt
 given_fits (Some word) fits = ltb-true word (2 ^ 32) fits

@@ -39,7 +39,7 @@ word_few : (item : Option ℕ) → length (word_text item) ≤ 4
 word_few None = omega arith
 word_few (Some word) = omega arith
 
-present_few : (is : List (Option ℕ)) → length (present_text is) ≤ 4 * length is
+pub present_few : (is : List (Option ℕ)) → length (present_text is) ≤ 4 * length is
 present_few [] = omega arith
 present_few (i ∷ is) = omega (arith, length-append (word_text i) (present_text is), word_few i, present_few is)
 

@@ -1,38 +1,23 @@
--- What a slicer says of one observation more, and of the end.
+-- What a slicer of any kind says of one observation more, and of the end.
 use Rattle.std.proofs.Common.{◌≡◌, ◌⊎◌, ℕ, suc, ◌+◌, ◌-◌, ◌^◌, ◌<◌, ◌≤◌, min, Bool, true, false, List, [], ◌∷◌}
-use Rattle.std.proofs.Common.{◌++◌, length, Option, None, Some, Result, Ok, Err, IsTrue, OnOk, IsErrOf, inl, inr}
+use Rattle.std.proofs.Common.{◌++◌, Option, Result, Ok, Err, IsTrue, IfOk, OnOk, IsErrOf, inl, inr}
 use Rattle.std.proofs.Common.{refl, ap, sym, subst, ◌∙◌, arith, ⊎_elim}
 use Rattle.std.proofs.lemmas.Bool.{cases_lt}
 use Rattle.std.proofs.lemmas.Grind.{not_there}
-use Rattle.std.proofs.lemmas.List.{append-nil}
 use Rattle.std.specs.Io.KnownBytes.{Appends}
-use Rattle.cx_codec.specs.Blocks.{HasFront, StandsFor}
-use Rattle.cx_codec.specs.Puts.{Finishes, Putting, Puts, onto}
+use Rattle.cx_codec.specs.Blocks.{HasFront, StandsFor, Waiting}
+use Rattle.cx_codec.specs.Puts.{Finishes, Putting, Puts, Starts, onto}
 use Rattle.cx_codec.specs.declared.fault.OutFault.{OutFault}
 use Rattle.cx_codec.specs.declared.fault.OutFault.TheVariants.{NoMemory, WriteFault as write_fault}
 use Rattle.cx_codec.proofs.Blocks.{front_longer}
-use Rattle.cx_hart.specs.declared.record.StepRec.{StepRec}
 use Rattle.cx_io.specs.Cause.{HasCause}
-use Rattle.cx_log.specs.Reading.{Opened}
-use Rattle.cx_log.specs.Scan.{Scan}
-use Rattle.cx_observe.specs.Observation.{observation_of}
-use Rattle.cx_observe.specs.User.{user}
 use Rattle.cx_observe.specs.declared.obs.Obs.{Obs}
-use Rattle.cx_process.specs.Slicing.{added_text}
-use Rattle.cx_process.specs.Stands.{HasTaken, IsRoomRefused, output_of}
-use Rattle.cx_process.specs.declared.slicer.Slicer.{Slicer}
-use Rattle.cx_process.proofs.Standing.{body_grows}
-use Rattle.cx_slicefmt.specs.Text.{least_behind, slice_body, slice_end_text, slice_magic}
-use Rattle.cx_slicefmt.proofs.Texts.{body_end}
-use Rattle.cx_slices.specs.Groups.{groups_of}
-use Rattle.cx_commands.specs.Observed.{observations_in}
-use Rattle.cx_commands.specs.Process.{process_full, slice_begun, slice_of}
-use Rattle.cx_commands.specs.Slicing.{FeedsOn, HasFed}
-use Rattle.cx_commands.specs.Streaming.{FinishesOn, IsAll, TellsOn}
-use Rattle.cx_tellers.proofs.ShownTold.{observed_more}
+use Rattle.cx_commands.specs.Streaming.{FinishesOn, StartsOn, Told, TellsOn}
 use Rattle.cx_commands.proofs.Streams.{blocks_front}
 
--- ---- a slicer has taken some observations, whichever they are
+-- A slicer has taken some observations, whichever they are.
+abbrev IsForSome : (List Obs → Type 0) → Type 0
+IsForSome Has = ∥ ((os : List Obs) × Has os) ∥₁
 
 stable_le : (a b : ℕ) → ¬ (¬ (a ≤ b)) → a ≤ b
 stable_le a b twice = ⊎_elim (λ (less : b < a). absurd (twice (λ le. omega (arith, less, le)))) (λ (le : a ≤ b). le)
@@ -42,70 +27,78 @@ stable_true : (t : Bool) → ¬ (¬ (t ≡ true)) → t ≡ true
 stable_true true twice = refl
 stable_true false twice = absurd (twice (λ is. cc))
 
-taken_le : (s : Slicer) (a b : ℕ) → ((os : List Obs) → HasTaken os s → a ≤ b) → a ≤ b
-taken_le s a b of = stable_le a b (λ never. not_there s.slicing (λ some. never (of some.0 some.1)))
+taken_le : (Has : List Obs → Type 0) → IsForSome Has → (a b : ℕ) → ((os : List Obs) → Has os → a ≤ b) → a ≤ b
+taken_le Has any a b of = stable_le a b (λ never. not_there any (λ some. never (of some.0 some.1)))
 
-taken_true : (s : Slicer) (t : Bool) → ((os : List Obs) → HasTaken os s → t ≡ true) → t ≡ true
-taken_true s t of = stable_true t (λ never. not_there s.slicing (λ some. never (of some.0 some.1)))
+taken_true : (Has : List Obs → Type 0) → IsForSome Has → (t : Bool) → ((os : List Obs) → Has os → t ≡ true)
+    → t ≡ true
+taken_true Has any t of = stable_true t (λ never. not_there any (λ some. never (of some.0 some.1)))
 
 -- ---- a cause
 
-caused : {T : Type 0} (s : Slicer) (before now : ℕ) (result : Result T OutFault)
-    → ((os : List Obs) → HasTaken os s → HasCause write_fault before now result)
-    → HasCause write_fault before now result
-caused s before now result of = record {
-  later = taken_le s before now (λ os taken. (of os taken).later);
-  fits = λ small. taken_le s (suc now) (2 ^ 64) (λ os taken. (of os taken).fits small);
-  failed = λ is. taken_le s (min (before + 1) (2 ^ 64 - 1)) now (λ os taken. (of os taken).failed is);
+caused : {T : Type 0} (Has : List Obs → Type 0) → IsForSome Has → (before now : ℕ) (result : Result T OutFault)
+    → ((os : List Obs) → Has os → HasCause write_fault before now result) → HasCause write_fault before now result
+caused Has any before now result of = record {
+  later = taken_le Has any before now (λ os taken. (of os taken).later);
+  fits = λ small. taken_le Has any (suc now) (2 ^ 64) (λ os taken. (of os taken).fits small);
+  failed = λ is. taken_le Has any (min (before + 1) (2 ^ 64 - 1)) now (λ os taken. (of os taken).failed is);
 }
 
 -- ---- one observation more
 
--- what a slicer answers to it
-abbrev pub Fed : {S : Type 0} → (S → Option (List ℕ)) → (S → ℕ) → Slicer → Slicer → S → S → Obs
-    → Result (Unit {0}) OutFault → Type 0
-Fed held faults old new sink sink_now o result =
-    (os : List Obs) → HasTaken os old → IsRoomRefused result old new sink sink_now
-    ⊎ Puts write_fault (added_text os o) (onto (output_of old) (held sink) (faults sink))
-    (onto (output_of new) (held sink_now) (faults sink_now)) result
+-- Room was refused, and nothing was put.
+pub record IsRefused {S : Type 0} (result : Result (Unit {0}) OutFault) (sink sink_now : S) : Type 0 where
+  pub answer : result ≡ Err NoMemory
+  pub sink_same : sink_now ≡ sink
 
-pub unfed : (os : List Obs) (o : Obs) (base held : Option (List ℕ)) (waiting : List ℕ)
-    → StandsFor base (slice_begun os) waiting held → HasFront base (slice_begun (os ++ o ∷ [])) held
-unfed os o base held waiting told =
-    subst (λ (t : List ℕ). HasFront base t held) (sym (body_grows os o))
-    (front_longer base held (slice_begun os) (added_text os o) (blocks_front base held (slice_begun os) waiting told))
+-- what a slicer answers to it, of some that it may have taken: old and new are its outputs, and this is what is added
+abbrev pub Fed : {S : Type 0} → (S → Option (List ℕ)) → (S → ℕ) → (List Obs → Type 0) → (List Obs → List ℕ)
+    → (old new : Waiting) → S → S → Result (Unit {0}) OutFault → Type 0
+Fed held faults Has added old new sink sink_now result =
+    (os : List Obs) → Has os → IsRefused result sink sink_now
+    ⊎ Puts write_fault (added os) (onto old (held sink) (faults sink)) (onto new (held sink_now) (faults sink_now))
+    result
 
-pub fed_on : {S : Type 0} (held : S → Option (List ℕ)) (faults : S → ℕ) (old new : Slicer) (sink sink_now : S)
-    (o : Obs) (result : Result (Unit {0}) OutFault) (os : List Obs) (base : Option (List ℕ)) → HasTaken os old
-    → StandsFor base (slice_begun os) (output_of old).bytes (held sink)
-    → OnOk result (HasTaken (os ++ o ∷ []) new) → Fed held faults old new sink sink_now o result
-    → FeedsOn base os o new (held sink_now) result
-fed_on held faults old new sink sink_now o (Ok u) os base taken told more fed = elim (fed os taken) [
-  | inl refused ↦ absurd (let never = refused.answer in cc)
-  | inr puts ↦ (
-    more,
-    subst (λ (t : List ℕ). StandsFor base t (output_of new).bytes (held sink_now)) (sym (body_grows os o))
-        (puts.stands base (slice_begun os) told),
-  )
-]
-fed_on held faults old new sink sink_now o (Err e) os base taken told more fed = elim (fed os taken) [
-  | inl refused ↦ subst (λ (s : _). HasFront base (slice_begun (os ++ o ∷ [])) (held s)) (sym refused.sink_same)
-      (unfed os o base (held sink) (output_of old).bytes told)
-  | inr puts ↦ subst (λ (t : List ℕ). HasFront base t (held sink_now)) (sym (body_grows os o))
-      (puts.refused base (slice_begun os) told)
-]
+pub unfed : (begun more : List ℕ) (base held : Option (List ℕ)) (waiting added : List ℕ) → more ≡ begun ++ added
+    → StandsFor base begun waiting held → HasFront base more held
+unfed begun more base held waiting added grows told =
+    subst (λ (t : List ℕ). HasFront base t held) (sym grows)
+    (front_longer base held begun added (blocks_front base held begun waiting told))
 
-pub fed_live : {S : Type 0} (held : S → Option (List ℕ)) (faults : S → ℕ) (old new : Slicer) (sink sink_now : S)
-    (o : Obs) (result : Result (Unit {0}) OutFault) → Fed held faults old new sink sink_now o result
-    → OnOk result (IsTrue (output_of new).live)
-fed_live held faults old new sink sink_now o (Err e) fed = tt
-fed_live held faults old new sink sink_now o (Ok u) fed = taken_true old (output_of new).live (λ os taken. by_fed os
-    (fed os taken))
+pub fed_on : {S : Type 0} (held : S → Option (List ℕ)) (faults : S → ℕ) (Has : List Obs → Type 0)
+    (added : List Obs → List ℕ) (old new : Waiting) (sink sink_now : S) (result : Result (Unit {0}) OutFault)
+    (begun more : List ℕ) (Keeps Now : Type 0) (os : List Obs) (base : Option (List ℕ)) → more ≡ begun ++ added os
+    → Has os → Told base begun old.bytes (held sink) Keeps → OnOk result Now
+    → Fed held faults Has added old new sink sink_now result
+    → TellsOn base more new.bytes (held sink_now) Now result
+fed_on held faults Has added old new sink sink_now (Ok u) begun more Keeps Now os base grows taken told keeps fed =
+    elim (fed os taken) [
+      | inl refused ↦ absurd (let never = refused.answer in cc)
+      | inr puts ↦ record {
+        stands = subst (λ (t : List ℕ). StandsFor base t new.bytes (held sink_now)) (sym grows)
+            (puts.stands base begun told.stands);
+        keeps = keeps;
+      }
+    ]
+fed_on held faults Has added old new sink sink_now (Err e) begun more Keeps Now os base grows taken told keeps fed =
+    elim (fed os taken) [
+      | inl refused ↦ subst (λ (s : _). HasFront base more (held s)) (sym refused.sink_same)
+          (unfed begun more base (held sink) old.bytes (added os) grows told.stands)
+      | inr puts ↦ subst (λ (t : List ℕ). HasFront base t (held sink_now)) (sym grows)
+          (puts.refused base begun told.stands)
+    ]
+
+pub fed_live : {S : Type 0} (held : S → Option (List ℕ)) (faults : S → ℕ) (Has : List Obs → Type 0)
+    (added : List Obs → List ℕ) (old new : Waiting) (sink sink_now : S) (result : Result (Unit {0}) OutFault)
+    → IsForSome Has → Fed held faults Has added old new sink sink_now result → OnOk result (IsTrue new.live)
+fed_live held faults Has added old new sink sink_now (Err e) any fed = tt
+fed_live held faults Has added old new sink sink_now (Ok u) any fed =
+    taken_true Has any new.live (λ os taken. by_fed os (fed os taken))
   where
-    by_fed : (os : List Obs) → IsRoomRefused (Ok u) old new sink sink_now
-        ⊎ Puts write_fault (added_text os o) (onto (output_of old) (held sink) (faults sink))
-        (onto (output_of new) (held sink_now) (faults sink_now)) (Ok u)
-        → (output_of new).live ≡ true
+    by_fed : (os : List Obs) → IsRefused (Ok u) sink sink_now
+        ⊎ Puts write_fault (added os) (onto old (held sink) (faults sink))
+        (onto new (held sink_now) (faults sink_now)) (Ok u)
+        → new.live ≡ true
     by_fed os (inl refused) = let never = refused.answer in cc
     by_fed os (inr puts) = puts.live
 
@@ -121,82 +114,43 @@ unchanged {T} before now result same is = record {
     by_answer (Ok x) is wrong = cc
     by_answer (Err e) is wrong = cc
 
-pub fed_cause : {S : Type 0} (held : S → Option (List ℕ)) (faults : S → ℕ) (old new : Slicer) (sink sink_now : S)
-    (o : Obs) (result : Result (Unit {0}) OutFault) → Fed held faults old new sink sink_now o result
+pub fed_cause : {S : Type 0} (held : S → Option (List ℕ)) (faults : S → ℕ) (Has : List Obs → Type 0)
+    (added : List Obs → List ℕ) (old new : Waiting) (sink sink_now : S) (result : Result (Unit {0}) OutFault)
+    → IsForSome Has → Fed held faults Has added old new sink sink_now result
     → HasCause write_fault (faults sink) (faults sink_now) result
-fed_cause held faults old new sink sink_now o result fed =
-    caused old (faults sink) (faults sink_now) result (λ os taken. elim (fed os taken) [
+fed_cause held faults Has added old new sink sink_now result any fed =
+    caused Has any (faults sink) (faults sink_now) result (λ os taken. elim (fed os taken) [
       | inl refused ↦ unchanged (faults sink) (faults sink_now) result (ap faults refused.sink_same) refused.answer
       | inr puts ↦ puts.cause
     ])
 
--- ---- a step
-
-pub fed_told : (root sliced : ℕ) (given : List StepRec) (rec : StepRec) (o : Obs) (slicer : Slicer)
-    (base held : Option (List ℕ)) (result : Result (Unit {0}) OutFault) → sliced ≡ root
-    → observation_of rec sliced ≡ Some o → FeedsOn base (observations_in root given) o slicer held result
-    → TellsOn base (slice_begun (observations_in root (given ++ rec ∷ []))) (output_of slicer).bytes held
-    (HasFed sliced slicer root (given ++ rec ∷ [])) result
-fed_told root sliced given rec o slicer base held (Ok u) same is fed =
-    let more = sym (observed_more root given rec (Some o) (ap (observation_of rec) (sym same) ∙ is)) in
-    record {
-      stands = subst (λ (os : List Obs). StandsFor base (slice_begun os) (output_of slicer).bytes held) more fed.1;
-      keeps = record { same = same; taken = subst (λ (os : List Obs). HasTaken os slicer) more fed.0 };
-    }
-fed_told root sliced given rec o slicer base held (Err e) same is fed =
-    subst (λ (os : List Obs). HasFront base (slice_begun os) held)
-    (sym (observed_more root given rec (Some o) (ap (observation_of rec) (sym same) ∙ is))) fed
-
--- a step that shows nothing
-pub unseen_told : (root sliced : ℕ) (given : List StepRec) (rec : StepRec) (slicer : Slicer)
-    (base held : Option (List ℕ)) → HasFed sliced slicer root given → observation_of rec sliced ≡ None
-    → StandsFor base (slice_begun (observations_in root given)) (output_of slicer).bytes held
-    → TellsOn base (slice_begun (observations_in root (given ++ rec ∷ []))) (output_of slicer).bytes held
-    (HasFed sliced slicer root (given ++ rec ∷ [])) (Ok (tt {0}))
-unseen_told root sliced given rec slicer base held keeps is stands =
-    let more = sym (observed_more root given rec None (ap (observation_of rec) (sym keeps.same) ∙ is)
-    ∙ append-nil (observations_in root given)) in
-    record {
-      stands = subst (λ (os : List Obs). StandsFor base (slice_begun os) (output_of slicer).bytes held) more stands;
-      keeps = record { same = keeps.same; taken = subst (λ (os : List Obs). HasTaken os slicer) more keeps.taken };
-    }
-
 -- ---- the end
 
-pub end_cause : (s : Slicer) (old : Putting) (held : Option (List ℕ)) (faults : ℕ) (result : Result (Unit {0}) OutFault)
-    → ((os : List Obs) → HasTaken os s
-    → Finishes write_fault (slice_end_text (least_behind 0 (groups_of user os)) (length os)) old held faults result)
+pub end_cause : (Has : List Obs → Type 0) → IsForSome Has → (ending : List Obs → List ℕ) (old : Putting)
+    (held : Option (List ℕ)) (faults : ℕ) (result : Result (Unit {0}) OutFault)
+    → ((os : List Obs) → Has os → Finishes write_fault (ending os) old held faults result)
     → HasCause write_fault old.faults faults result
-end_cause s old held faults result finishes =
-    caused s old.faults faults result (λ os taken. (finishes os taken).cause)
+end_cause Has any ending old held faults result finishes =
+    caused Has any old.faults faults result (λ os taken. (finishes os taken).cause)
 
-pub ends_on : (os : List Obs) (base : Option (List ℕ)) (old : Putting) (held : Option (List ℕ)) (faults : ℕ)
-    (result : Result (Unit {0}) OutFault) → StandsFor base (slice_begun os) old.output.bytes old.held
-    → Finishes write_fault (slice_end_text (least_behind 0 (groups_of user os)) (length os)) old held faults result
-    → FinishesOn base (slice_of os) held result
-ends_on os base old held faults (Ok u) told finishes =
-    subst (λ (t : List ℕ). Appends base held t) (sym (body_end (groups_of user os) (length os)))
-    (finishes.written base (slice_begun os) told)
-ends_on os base old held faults (Err e) told finishes =
-    subst (λ (t : List ℕ). HasFront base t held) (sym (body_end (groups_of user os) (length os)))
-    (finishes.refused base (slice_begun os) told)
-
-pub ends_all : (root : ℕ) (o : Opened) (s : Scan) (given : List StepRec) (end : ℕ) (base held : Option (List ℕ))
-    (result : Result (Unit {0}) OutFault) → IsAll o s given end
-    → FinishesOn base (slice_of (observations_in root given)) held result
-    → FinishesOn base (process_full root o s) held result
-ends_all root o s given end base held result all finishes =
-    subst (λ (xs : List StepRec). FinishesOn base (slice_of (observations_in root xs)) held result) all.all finishes
+pub ends_on : (begun whole ending : List ℕ) (base : Option (List ℕ)) (old : Putting) (held : Option (List ℕ))
+    (faults : ℕ) (result : Result (Unit {0}) OutFault) → whole ≡ begun ++ ending
+    → StandsFor base begun old.output.bytes old.held → Finishes write_fault ending old held faults result
+    → FinishesOn base whole held result
+ends_on begun whole ending base old held faults (Ok u) ends told finishes =
+    subst (λ (t : List ℕ). Appends base held t) (sym ends) (finishes.written base begun told)
+ends_on begun whole ending base old held faults (Err e) ends told finishes =
+    subst (λ (t : List ℕ). HasFront base t held) (sym ends) (finishes.refused base begun told)
 
 -- ---- the start
 
-begun_is : slice_begun [] ≡ slice_magic
-unfolding slice_body
-begun_is = append-nil slice_magic
-
-pub begins_on : (base held : Option (List ℕ)) (waiting : List ℕ) → StandsFor base slice_magic waiting held
-    → StandsFor base (slice_begun []) waiting held
-begins_on base held waiting stands = subst (λ (t : List ℕ). StandsFor base t waiting held) (sym begun_is) stands
-
-pub begins_front : (base held : Option (List ℕ)) → HasFront base slice_magic held → HasFront base (slice_begun []) held
-begins_front base held front = subst (λ (t : List ℕ). HasFront base t held) (sym begun_is) front
+pub starts_by : {X : Type 0} (begun magic : List ℕ) (output : X → Waiting) (Has : X → Type 0)
+    (held held_now : Option (List ℕ)) (faults faults_now : ℕ) (result : Result X OutFault) → begun ≡ magic
+    → Starts write_fault magic output held held_now faults faults_now result → IfOk result Has
+    → StartsOn held begun (λ x. (output x).bytes) held_now Has result
+starts_by begun magic output Has held held_now faults faults_now (Ok x) is starts has = record {
+  stands = subst (λ (t : List ℕ). StandsFor held t (output x).bytes held_now) (sym is) starts.stands;
+  keeps = has;
+}
+starts_by begun magic output Has held held_now faults faults_now (Err e) is starts has =
+    subst (λ (t : List ℕ). HasFront held t held_now) (sym is) starts.refused

@@ -1,7 +1,10 @@
 pub mod Taken
 pub mod LineTold
 pub mod ShownTold
+pub mod ObservationLine
 pub mod Fronts
 pub mod Upgrading
 pub mod RootsTold
 pub mod FedTold
+pub mod SliceTold
+pub mod CallsTold

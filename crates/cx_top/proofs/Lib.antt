@@ -1,3 +1,2 @@
-pub mod SlicePut
 pub mod Replayed
 pub mod StepCounts

@@ -1,7 +1,7 @@
 -- The words of `record` tell 1 to 2^27 steps.
 use Rattle.std.proofs.Common.{◌≡◌, ℕ, ◌^◌, ◌<◌, ◌≤◌, ◌&&◌, nat_le, nat_lt, Bool, true, false, if◌then◌else◌, List, []}
 use Rattle.std.proofs.Common.{◌∷◌, Option}
-use Rattle.std.proofs.Common.{None, Some, codes, refl, sym, subst, arith}
+use Rattle.std.proofs.Common.{None, Some, codes, refl, subst, arith}
 use Rattle.std.proofs.lemmas.Bool.{leb-true}
 use Rattle.std.specs.Bool.{then_some}
 use Rattle.std.specs.Option.{option_and_then, option_map, option_zip}

@@ -1,2 +1,1 @@
-pub mod SlicePut
 pub mod SeedTold

@@ -3,8 +3,8 @@
 
 mod call;
 mod record;
+mod relog;
 mod replay;
-mod replay_process;
 mod roots;
 mod seed_told;
 mod slice;

@@ -7,8 +7,8 @@ ghost use Rattle.cx_live.specs.Image.{IsImage};
 ghost use Rattle.cx_replay.specs.Records.{MayBeWhole};
 ghost use Rattle.cx_commands.specs.Call.{input_behind};
 ghost use Rattle.cx_commands.specs.Doing.{Answers, CausedBy, Consumes, IsUntouched, Judges, Leaves};
-ghost use Rattle.cx_commands.specs.Record.{AsksSeed, IsImageRefusal, IsRecordStatus, IsSeededStatus, ReadsImage, Recorded};
-ghost use Rattle.cx_commands.specs.Record.{Records, seeded};
+ghost use Rattle.cx_commands.specs.Record.{AsksSeed, IsImageRefusal, IsRecordStatus, IsSeededStatus, ReadsImage};
+ghost use Rattle.cx_commands.specs.Record.{Recorded, Records, seeded};
 ghost use Rattle.cx_commands.specs.Window.{ReadAll};
 
 use crate::seed_told::SeedTold;

@@ -10,15 +10,17 @@ ghost use Rattle.cx_replay.specs.Records.{GaveMore, MayBeWhole};
 ghost use Rattle.cx_commands.specs.Call.{input_behind};
 ghost use Rattle.cx_commands.specs.Doing.{Answers, CausedBy, Consumes, Does, IsUntouched, Judges, Leaves, ended};
 ghost use Rattle.cx_commands.specs.Opening.{begun_at, behind_magic_at};
-ghost use Rattle.cx_commands.specs.Replay.{IsReplayRefusal, IsReplayStatus, replaying};
-ghost use Rattle.cx_commands.specs.Streaming.{IsStreamRefusal};
+ghost use Rattle.cx_commands.specs.Replay.{replaying};
+ghost use Rattle.cx_commands.specs.Streaming.{IsStreamRefusal, IsStreamStatus};
 ghost use Rattle.cx_commands.specs.Trace.{tracing};
 
-use crate::replay_process::replay_process;
+use cx_alone::Alone;
+use cx_call_alone::CallAlone;
 use cx_codec::Bytes;
 use cx_commands::{Magic, Status};
 use cx_io::{Sink, Source};
-use cx_tellers::Lines;
+use cx_retelling::retell;
+use cx_tellers::{Lines, ObservationLines};
 use cx_telling::{open_behind, read_magic, run_opened};
 use std::alloc::Global;
 
@@ -62,8 +64,7 @@ fn read_replay<S: Source, T: Sink>(
         (MayBeWhole (S.left source.new) (S.given source.new) input) (input ≡ S.given source.new)
         (T.held sink.old) (T.held sink.new) result }
     ensures spent { IsSome (S.left source.old) → Judges true (ended result) → unwrap_or (S.left source.new) [] ≡ [] }
-    ensures kind { IfErr result IsReplayRefusal }
-    ensures untouched { IfErr result (λ status. IsUntouched true status → sink.new ≡ sink.old) }
+    ensures kind { IfErr result (IsStreamRefusal false) }
     ensures read_cause { HasCause Status.ReadFault (S.faults source.old) (S.faults source.new) result }
     ensures write_cause { HasCause Status.WriteFault (T.faults sink.old) (T.faults sink.new) result }
 {
@@ -71,13 +72,13 @@ fn read_replay<S: Source, T: Sink>(
     let magic = read_magic(&mut bytes, source)?;
     match magic {
         Magic::Recording => replay_recording(alloc, bytes, source, sink),
-        Magic::Process => replay_process(alloc, bytes, source, sink),
-        Magic::Calls => Err(Status::NotBuilt(0)),
+        Magic::Process => retell::<Alone, ObservationLines, S, T>(alloc, bytes, source, sink),
+        Magic::Calls => retell::<CallAlone, ObservationLines, S, T>(alloc, bytes, source, sink),
     }
 }
 
 /// Reads an input, runs it, and writes a line for each step, as the steps are settled: of a recording that of the step,
-/// and of a process slice that of its observation. Slices by calls aren't built.
+/// and of a slice of either kind that of its observation.
 pub(crate) fn replay<S: Source, T: Sink>(alloc: Global, source: &mut S, sink: &mut T) -> Status
     ensures answer { IsSome (S.left source.old) → (input : List ℕ) → Begins (S.given source.new) input
         → AreBytes (input_behind (S.given source.old) input)
@@ -91,7 +92,7 @@ pub(crate) fn replay<S: Source, T: Sink>(alloc: Global, source: &mut S, sink: &m
     ensures consumes { IsSome (S.left source.old)
         → Consumes (S.left source.old) (S.given source.old) (S.left source.new) (S.given source.new)
         (Judges true result) }
-    ensures kind { IsReplayStatus result }
+    ensures kind { IsStreamStatus false result }
     ensures untouched { IsUntouched true result → sink.new ≡ sink.old }
     ensures read_cause { CausedBy Status.ReadFault (S.faults source.old) (S.faults source.new) result }
     ensures write_cause { CausedBy Status.WriteFault (T.faults sink.old) (T.faults sink.new) result }

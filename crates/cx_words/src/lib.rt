@@ -9,7 +9,10 @@ mod arguments;
 mod command;
 mod number;
 mod queries;
+mod question;
 mod spelling;
 
 pub use command::{Command, read_words};
+pub use queries::query;
+pub use question::Query;
 pub use spelling::numbers_read_back;

@@ -1,11 +1,21 @@
 use Rattle.std.proofs.Common.{◌≡◌}
 use Rattle.std.proofs.lemmas.Result.{err_from_is_err_and}
 use Rattle.cx_codec.proofs.Following.{begins_on, end_stays}
+use Rattle.cx_codec.specs.Place.{Place}
+use Rattle.cx_codec.specs.Reads.{over, place_in}
 use Rattle.cx_replay.proofs.Giving.{gave_on}
 use Rattle.cx_replay.specs.Records.{MayBeWhole}
 use Rattle.cx_commands.specs.Call.{input_behind}
 use Rattle.cx_telling.proofs.Consuming.{gave_of_follows, log_is_early}
-use Rattle.cx_top.proofs.Replayed.{behind_recording, refuses_magic, refuses_calls, replays_recording}
+use Rattle.cx_top.proofs.Replayed.{
+  all_of_text,
+  behind_recording,
+  bytes_of_kind,
+  refuses_magic,
+  replays_calls,
+  replays_process,
+  replays_recording,
+}
 use Rattle.cx_top.proofs.replay.read_replay.Goals as goal
 
 pub returns-in_err-magic-clause-does : goal.returns-in_err-magic-clause-does
@@ -32,24 +42,36 @@ returns-in-Recording-clause-does g c told input begins are =
     (behind_recording _ _ kind) (end_stays magic.follows input first))
 
 pub returns-in-Calls-clause-follows : goal.returns-in-Calls-clause-follows
-returns-in-Calls-clause-follows g c told = gave_of_follows (c.in_ok-magic.ensures.reads told).follows
+returns-in-Calls-clause-follows g c told =
+    let magic = c.in_ok-magic.ensures.reads told in
+    gave_on (gave_of_follows magic.follows) (c.retell-in-Calls.ensures.follows magic.follows.told)
 
 pub returns-in-Calls-clause-does : goal.returns-in-Calls-clause-does
 returns-in-Calls-clause-does g c told input begins are =
     let magic = rw (c.in_ok-bytes.ensures, c.in-Calls.is) at (c.in_ok-magic.ensures.reads told) in
-    refuses_calls _ _ (Unit {0}) (Unit {0}) (g.T.Sink.held c.args.sink.now) (magic.reads input begins)
+    let first = begins_on (c.retell-in-Calls.ensures.follows magic.follows.told).grows begins in
+    let kind = magic.reads input first in
+    let text = input_behind (g.S.Source.given c.args.source.now) input in
+    let mid : Place = place_in (over c.read_magic.new.bytes (g.S.Source.left c.read_magic.new.source)
+    (g.S.Source.given c.read_magic.new.source)) input in
+    replays_calls text mid _ _ _ _ c.retell-in-Calls.result kind (c.retell-in-Calls.ensures.does magic.follows.told
+    input text begins (bytes_of_kind text _ mid are kind) (all_of_text text mid (end_stays magic.follows input first)))
 
 pub returns-in-Process-clause-follows : goal.returns-in-Process-clause-follows
 returns-in-Process-clause-follows g c told =
     let magic = c.in_ok-magic.ensures.reads told in
-    gave_on (gave_of_follows magic.follows) (c.replay_process.ensures.follows magic.follows.told)
+    gave_on (gave_of_follows magic.follows) (c.retell.ensures.follows magic.follows.told)
 
 pub returns-in-Process-clause-does : goal.returns-in-Process-clause-does
 returns-in-Process-clause-does g c told input begins are =
     let magic = rw (c.in_ok-bytes.ensures, c.in-Process.is) at (c.in_ok-magic.ensures.reads told) in
-    let first = begins_on (c.replay_process.ensures.follows magic.follows.told).grows begins in
-    c.replay_process.ensures.does magic.follows.told input _ begins are (magic.reads input first)
-    (end_stays magic.follows input first)
+    let first = begins_on (c.retell.ensures.follows magic.follows.told).grows begins in
+    let kind = magic.reads input first in
+    let text = input_behind (g.S.Source.given c.args.source.now) input in
+    let mid : Place = place_in (over c.read_magic.new.bytes (g.S.Source.left c.read_magic.new.source)
+    (g.S.Source.given c.read_magic.new.source)) input in
+    replays_process text mid _ _ _ _ c.retell.result kind (c.retell.ensures.does magic.follows.told input text begins
+    (bytes_of_kind text _ mid are kind) (all_of_text text mid (end_stays magic.follows input first)))
 
 pub returns-in_err-magic-clause-spent : goal.returns-in_err-magic-clause-spent
 returns-in_err-magic-clause-spent g c told =
@@ -61,5 +83,8 @@ returns-in-Recording-clause-spent g c told =
     c.replay_recording.ensures.spent (c.in_ok-magic.ensures.reads told).follows.told
 
 pub returns-in-Process-clause-spent : goal.returns-in-Process-clause-spent
-returns-in-Process-clause-spent g c told =
-    c.replay_process.ensures.spent (c.in_ok-magic.ensures.reads told).follows.told
+returns-in-Process-clause-spent g c told = c.retell.ensures.spent (c.in_ok-magic.ensures.reads told).follows.told
+
+pub returns-in-Calls-clause-spent : goal.returns-in-Calls-clause-spent
+returns-in-Calls-clause-spent g c told =
+    c.retell-in-Calls.ensures.spent (c.in_ok-magic.ensures.reads told).follows.told

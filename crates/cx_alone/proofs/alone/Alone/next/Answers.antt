@@ -16,7 +16,7 @@ returns-in-Ok-None-clause-answers g c = λ told input may whole end os stands.
     let e = ended whole os c.args.self.now.at (known_by c.args.self.now.standing) (known_by c.go_by.new.standing)
     (IsAheadBy whole end c.settle.new.self (g.S.Source.left c.settle.new.source)
     (g.S.Source.given c.settle.new.source) input) (handed c.in_ok-due.due) c.in-Ok-None.field-0 stands.run
-    (c.in_ok-due.ensures.settles told input may whole end stands.ahead) c.in-Ok-None.field-0-is c.in-Ok-None.ensures in
+    (c.in_ok-due.ensures.settles told input may whole end stands.ahead) c.in-Ok-None.field-0-is c.in-Ok-None.ensures.goes in
     (e.good, (e.gave, record { run = e.run; ahead = e.ahead }))
 
 pub returns-in-Ok-Some-clause-answers : goal.returns-in-Ok-Some-clause-answers
@@ -25,7 +25,7 @@ returns-in-Ok-Some-clause-answers g c = λ told input may whole end os stands.
     (known_by c.go_by.new.standing)
     (IsAheadBy whole end c.settle.new.self (g.S.Source.left c.settle.new.source)
     (g.S.Source.given c.settle.new.source) input) (handed c.in_ok-due.due) c.in-Ok-Some.field-0 stands.run
-    (c.in_ok-due.ensures.settles told input may whole end stands.ahead) c.in-Ok-Some.field-0-is c.in-Ok-Some.ensures in
+    (c.in_ok-due.ensures.settles told input may whole end stands.ahead) c.in-Ok-Some.field-0-is c.in-Ok-Some.ensures.goes in
     record { run = w.run; ahead = w.ahead }
 
 pub returns-in-Err-Broken-clause-answers : goal.returns-in-Err-Broken-clause-answers
@@ -34,10 +34,10 @@ returns-in-Err-Broken-clause-answers g c = λ told input may whole end os stands
     (IsAheadBy whole end c.settle.new.self (g.S.Source.left c.settle.new.source)
     (g.S.Source.given c.settle.new.source) input) (handed c.in_ok-due.due) c.in-Err-Broken.field-0 stands.run
     (c.in_ok-due.ensures.settles told input may whole end stands.ahead) c.in-Err-Broken.field-0-is
-    c.in-Err-Broken.ensures in
+    c.in-Err-Broken.ensures.goes in
     (b.bad, (b.gave, b.count))
 
 pub returns-in-Ok-None-clause-ended : goal.returns-in-Ok-None-clause-ended
 returns-in-Ok-None-clause-ended g c = λ found.
     c.in_ok-due.ensures.ended (end_is_due (known_by c.args.self.now.standing) (known_by c.go_by.new.standing)
-    (handed c.in_ok-due.due) c.in-Ok-None.field-0 c.in-Ok-None.field-0-is c.in-Ok-None.ensures)
+    (handed c.in_ok-due.due) c.in-Ok-None.field-0 c.in-Ok-None.field-0-is c.in-Ok-None.ensures.goes)

@@ -1,0 +1,3 @@
+pub mod Latest
+pub mod AnswerOf
+pub mod Lines

@@ -1,0 +1,4 @@
+pub mod ProcessReplays
+pub mod CallReplays
+pub mod Retold
+pub mod SameDoings

@@ -1,9 +1,0 @@
-use Rattle.std.proofs.Common.{refl}
-use Rattle.cx_tellers.proofs.RootsTold.{fresh_put}
-use Rattle.cx_tellers.proofs.root_lines.RootLinesTeller.start.Goals as goal
-
-pub returns-clause-starts : goal.returns-clause-starts
-returns-clause-starts g c o whole header memory = record {
-  stands = fresh_put _ _ c.in_ok-out.ensures;
-  keeps = record { same = refl; all = refl };
-}

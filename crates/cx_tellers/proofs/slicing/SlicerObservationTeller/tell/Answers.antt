@@ -1,0 +1,35 @@
+use Rattle.std.proofs.Common.{[], ◌∷◌, ◌++◌}
+use Rattle.std.proofs.lemmas.Result.{err_from_is_err_and}
+use Rattle.cx_observe.specs.declared.obs.Obs.{Obs}
+use Rattle.cx_process.specs.Slicing.{added_text}
+use Rattle.cx_process.specs.Stands.{HasTaken, output_of}
+use Rattle.cx_process.proofs.Standing.{body_grows}
+use Rattle.cx_commands.specs.Process.{slice_begun}
+use Rattle.cx_tellers.proofs.FedTold.{fed_cause, fed_live, fed_on, unfed}
+use Rattle.cx_tellers.proofs.SliceTold.{room_or}
+use Rattle.cx_tellers.proofs.slicing.SlicerObservationTeller.tell.Goals as goal
+
+pub returns-in_err-may_have_more-clause-tells : goal.returns-in_err-may_have_more-clause-tells
+returns-in_err-may_have_more-clause-tells g c os base told =
+    let p = err_from_is_err_and c.from_residual.result c.from_residual.ensures.1 in
+    rw p.1 (unfed (slice_begun os) (slice_begun (os ++ c.args.obs.now ∷ [])) base _ _ (added_text os c.args.obs.now)
+    (body_grows os c.args.obs.now) told.stands)
+
+pub returns-clause-tells : goal.returns-clause-tells
+returns-clause-tells g c os base told =
+    fed_on g.T.Sink.held g.T.Sink.faults (λ os. HasTaken os c.args.self.now) (λ os. added_text os c.args.obs.now)
+    (output_of c.args.self.now) (output_of c.feed.new.self) c.args.sink.now c.feed.new.sink c.feed.result
+    (slice_begun os) (slice_begun (os ++ c.args.obs.now ∷ [])) _ _ os base (body_grows os c.args.obs.now) told.keeps
+    told (c.feed.ensures.stands os told.keeps) (λ os taken. room_or (c.feed.ensures.puts os taken))
+
+pub returns-clause-goes : goal.returns-clause-goes
+returns-clause-goes g c =
+    fed_live g.T.Sink.held g.T.Sink.faults (λ os. HasTaken os c.args.self.now) (λ os. added_text os c.args.obs.now)
+    (output_of c.args.self.now) (output_of c.feed.new.self) c.args.sink.now c.feed.new.sink c.feed.result
+    c.args.self.now.slicing (λ os taken. room_or (c.feed.ensures.puts os taken))
+
+pub returns-clause-cause : goal.returns-clause-cause
+returns-clause-cause g c =
+    fed_cause g.T.Sink.held g.T.Sink.faults (λ os. HasTaken os c.args.self.now) (λ os. added_text os c.args.obs.now)
+    (output_of c.args.self.now) (output_of c.feed.new.self) c.args.sink.now c.feed.new.sink c.feed.result
+    c.args.self.now.slicing (λ os taken. room_or (c.feed.ensures.puts os taken))
